@@ -1,0 +1,5 @@
+pub mod Answers
+pub mod Words
+pub mod Machine
+pub mod Serial
+pub mod Laws

@@ -1,0 +1,9 @@
+pub mod Model
+pub mod Cells
+pub mod HazardPointers
+pub mod HazardOf
+pub mod Made
+pub mod QuiescentStates
+pub mod QuiescentOf
+pub mod Epoch
+pub mod EpochOf
