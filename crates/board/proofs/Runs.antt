@@ -2,20 +2,21 @@
 use Prim.Native.Nat.{ℕ, _<_, _≤_}
 use mathlib.Core.Path.{_≡_, refl, sym, ap, subst, _∙_}
 use mathlib.Core.Bool.{Bool, true, false, cond}
-use mathlib.Core.List.{List, [], _∷_}
+use mathlib.Core.List.{List}
+use mathlib.Core.Logic.{_⊎_, inl, inr}
 use lib.Dec.{eqb, ltb}
 use lib.ListN.{length}
-use Rattle.std.proofs.shelf.Tests.{eq-eqb, ne-eqb, lt-ltb, le-ltb}
+use Rattle.std.proofs.shelf.Tests.{cases-eq, eq-eqb, ne-eqb, lt-ltb, le-ltb}
 use Rattle.std.specs.declared.cmp.Ordering.{Ordering}
 use Rattle.std.specs.declared.cmp.Ordering.the-variants.{Less, Equal, Greater}
 use Rattle.std.specs.Orderings.{reversed}
 use Rattle.reclaim.specs.Model.{Model, Lawful}
 use Rattle.machine.specs.declared.answer.Answer.{Answer}
 use Rattle.machine.specs.declared.answer.Reason.the-variants as reason
-use Rattle.machine.specs.Sets.{compared}
+use Rattle.machine.specs.Serial.{compared}
 use Rattle.machine.specs.Machine.{Machine, ran}
-use Rattle.machine.specs.Theorem.{Carries}
-use Rattle.machine.proofs.Whole.{carries}
+use Rattle.machine.specs.Laws.{Carries}
+use Rattle.machine.proofs.Whole.{carries, idles}
 use Rattle.board.specs.Runs.{Run, refuses, does, running}
 
 module _ {S : Type 0} (M : Model S) (cmp : ℕ → ℕ → Ordering) (n : ℕ) (m : Machine S) (ws : List ℕ) (out : List Answer) where
@@ -36,21 +37,18 @@ module _ {S : Type 0} (M : Model S) (cmp : ℕ → ℕ → Ordering) (n : ℕ) (
 module _ {State I V : Type 0} (M : Model State) (law : Lawful M) (cmp : V → V → Ordering) (value : I → V)
   (same : (x y : V) → cmp x y ≡ Equal → x ≡ y) (itself : (x : V) → cmp x x ≡ Equal) (sides : (x y : V) → cmp y x ≡ reversed (cmp x y))
   (smaller : (x y z : V) → cmp x y ≡ Less → cmp y z ≡ Less → cmp x z ≡ Less) where
-  still : (items : List I) (m : Machine State) → Carries M cmp value items m m []
-  unfolding ran
-  still items m = carries M law cmp value same itself sides smaller items m []
+  -- refused for the items, refused for the answers, or done
+  ways : (given : List I) (m : Machine State) (ws : List ℕ) (out : List Answer) (b : Bool) → (length given ≡ m .items) ⊎ (length given ≡ m .items → ⊥)
+    → Carries M cmp value given m
+        (cond (eqb (length given) (m .items)) (cond b (refuses m out reason.ShortAnswers) (does M (compared cmp value given) (length given) m ws out)) (refuses m out reason.OtherItems) .after)
+        (cond (eqb (length given) (m .items)) (cond b (refuses m out reason.ShortAnswers) (does M (compared cmp value given) (length given) m ws out)) (refuses m out reason.OtherItems) .seen)
+  ways given m ws out true (inl n) = rw (eq-eqb (length given) (m .items) n) (idles M law cmp value same itself sides smaller given m)
+  ways given m ws out false (inl n) = rw (eq-eqb (length given) (m .items) n) (carries M law cmp value same itself sides smaller given m ws n)
+  ways given m ws out b (inr ne) = rw (ne-eqb (length given) (m .items) ne) (idles M law cmp value same itself sides smaller given m)
 
-  both : (items : List I) (m : Machine State) (ws : List ℕ) (out : List Answer) (a b : Bool)
-    → Carries M cmp value items m
-        (cond a (cond b (refuses m out reason.ShortAnswers) (does M (compared cmp value items) (length items) m ws out)) (refuses m out reason.OtherItems) .after)
-        (cond a (cond b (refuses m out reason.ShortAnswers) (does M (compared cmp value items) (length items) m ws out)) (refuses m out reason.OtherItems) .seen)
-  both items m ws out false b = still items m
-  both items m ws out true true = still items m
-  both items m ws out true false = carries M law cmp value same itself sides smaller items m ws
-
-  pub run-carries : (items : List I) (m next : Machine State) (ws : List ℕ) (out : List Answer)
-    → next ≡ running M (compared cmp value items) (length items) m ws out .after
-    → Carries M cmp value items m next (running M (compared cmp value items) (length items) m ws out .seen)
-  run-carries items m next ws out e =
-      subst (λ y. Carries M cmp value items m y (running M (compared cmp value items) (length items) m ws out .seen)) (sym e)
-        (both items m ws out (eqb (length items) (m .items)) (ltb (length out) (length ws)))
+  pub run-carries : (given : List I) (m next : Machine State) (ws : List ℕ) (out : List Answer)
+    → next ≡ running M (compared cmp value given) (length given) m ws out .after
+    → Carries M cmp value given m next (running M (compared cmp value given) (length given) m ws out .seen)
+  run-carries given m next ws out e =
+      subst (λ y. Carries M cmp value given m y (running M (compared cmp value given) (length given) m ws out .seen)) (sym e)
+        (ways given m ws out (ltb (length out) (length ws)) (cases-eq (length given) (m .items)))

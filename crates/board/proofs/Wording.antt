@@ -2,11 +2,12 @@
 use Prim.Native.Nat.{ℕ, _<_, _≤_}
 use mathlib.Core.Path.{_≡_, refl, sym, ap, subst, _∙_}
 use mathlib.Core.Bool.{Bool, true, false, cond}
-use mathlib.Core.List.{List, [], _∷_}
+use mathlib.Core.List.{List}
+use mathlib.Core.Logic.{_⊎_, inl, inr}
 use native.Mathlib.Omega.{arith}
 use lib.Dec.{eqb}
 use lib.ListN.{length}
-use Rattle.std.proofs.shelf.Tests.{eq-eqb, ne-eqb}
+use Rattle.std.proofs.shelf.Tests.{cases-eq, eq-eqb, ne-eqb}
 use Rattle.std.specs.declared.cmp.Ordering.{Ordering}
 use Rattle.std.specs.declared.cmp.Ordering.the-variants.{Less, Equal, Greater}
 use Rattle.std.specs.Orderings.{reversed}
@@ -19,11 +20,11 @@ use Rattle.machine.specs.declared.word.Kind.{Kind}
 use Rattle.machine.specs.declared.word.Word.{Word}
 use Rattle.machine.specs.declared.word.Word.the-variants.{Tidy, Of}
 use Rattle.machine.specs.Words.{parsed}
-use Rattle.machine.specs.Sets.{compared}
+use Rattle.machine.specs.Serial.{compared}
 use Rattle.machine.specs.Machine.{Machine, Did, answering, refusing, worded, ran}
-use Rattle.machine.specs.Theorem.{Carries}
+use Rattle.machine.specs.Laws.{Carries}
 use Rattle.machine.proofs.Ranges.{InRange, parsed-range}
-use Rattle.machine.proofs.Whole.{carries}
+use Rattle.machine.proofs.Whole.{one-word, idles}
 
 module _ {S : Type 0} (M : Model S) (cmp : ℕ → ℕ → Ordering) (n : ℕ) (m : Machine S) (w : ℕ) where
   pub other-items : (n ≡ m .items → ⊥) → worded M cmp n m w ≡ refusing M m reason.OtherItems
@@ -41,12 +42,14 @@ session-there w sessions items s k e = subst (λ r. InRange sessions r) e (parse
 module _ {State I V : Type 0} (M : Model State) (law : Lawful M) (cmp : V → V → Ordering) (value : I → V)
   (same : (x y : V) → cmp x y ≡ Equal → x ≡ y) (itself : (x : V) → cmp x x ≡ Equal) (sides : (x y : V) → cmp y x ≡ reversed (cmp x y))
   (smaller : (x y z : V) → cmp x y ≡ Less → cmp y z ≡ Less → cmp x z ≡ Less) where
-  one : (items : List I) (m : Machine State) (w : ℕ)
-    → Carries M cmp value items m (worded M (compared cmp value items) (length items) m w .after) (worded M (compared cmp value items) (length items) m w .seen)
-  unfolding ran
-  one items m w = carries M law cmp value same itself sides smaller items m (w ∷ [])
-
-  pub word-carries : (items : List I) (m next : Machine State) (w : ℕ) → next ≡ worded M (compared cmp value items) (length items) m w .after
-    → Carries M cmp value items m next (worded M (compared cmp value items) (length items) m w .seen)
-  word-carries items m next w e =
-      subst (λ y. Carries M cmp value items m y (worded M (compared cmp value items) (length items) m w .seen)) (sym e) (one items m w)
+  pub word-carries : (given : List I) (m next : Machine State) (w : ℕ) → next ≡ worded M (compared cmp value given) (length given) m w .after
+    → Carries M cmp value given m next (worded M (compared cmp value given) (length given) m w .seen)
+  word-carries given m next w e =
+      subst (λ y. Carries M cmp value given m y (worded M (compared cmp value given) (length given) m w .seen)) (sym e) (go (cases-eq (length given) (m .items)))
+    where
+      go : (length given ≡ m .items) ⊎ (length given ≡ m .items → ⊥)
+        → Carries M cmp value given m (worded M (compared cmp value given) (length given) m w .after) (worded M (compared cmp value given) (length given) m w .seen)
+      go (inl n) = one-word M law cmp value same itself sides smaller given m w n
+      go (inr ne) =
+          let q = other-items M (compared cmp value given) (length given) m w ne in
+          subst (λ (d : Did State). Carries M cmp value given m (d .after) (d .seen)) (sym q) (idles M law cmp value same itself sides smaller given m)

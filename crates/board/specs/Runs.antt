@@ -1,4 +1,4 @@
--- A list of words with a list for the answers. Assumes nothing.
+-- A list of words with a list for the answers: refused for other items, then for too few answers; else done, the rest of the answers as it was.
 use Prim.Native.Nat.{ℕ}
 use mathlib.Core.List.{List, [], _∷_, _++_}
 use mathlib.Core.Bool.{cond}
@@ -11,11 +11,11 @@ use Rattle.reclaim.specs.Model.{Model}
 use Rattle.machine.specs.declared.answer.Answer.{Answer}
 use Rattle.machine.specs.declared.answer.Reason.{Reason}
 use Rattle.machine.specs.declared.answer.Reason.the-variants as reason
-use Rattle.machine.specs.Machine.{Machine, Trace, ran}
+use Rattle.machine.specs.Machine.{Machine, Event, ran}
 
 pub record Run (S : Type 0) : Type 0 where
   pub after : Machine S
-  pub seen : Trace
+  pub seen : List Event
   pub written : List Answer
   pub value : Result ℕ Reason
 

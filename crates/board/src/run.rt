@@ -1,19 +1,16 @@
 ghost use mathlib.Core.Path.{_≡_};
-ghost use mathlib.Core.Bool.{true, false};
-ghost use mathlib.Core.List.{_++_, reverse};
-ghost use Prim.Native.Nat.{ℕ, _<_, _≤_};
+ghost use mathlib.Core.List.{_++_};
+ghost use Prim.Native.Nat.{_≤_};
 ghost use lib.ListN.{length, drop};
-ghost use Rattle.std.specs.Of.Vec.{vec-items, vec-len, vec-cap};
-ghost use Rattle.std.specs.Vec.{made};
-ghost use Rattle.machine.specs.Sets.{compared};
-ghost use Rattle.machine.specs.Theorem.{Carries};
+ghost use Rattle.machine.specs.Laws.{Carries};
 ghost use Rattle.machine.specs.Machine.{ran};
-ghost use Rattle.board.specs.View.{view};
+ghost use Rattle.machine.specs.Serial.{compared};
 ghost use Rattle.board.specs.Runs.{running};
+ghost use Rattle.board.specs.View.{view};
 use crate::board::Board;
-use machine::answer::Answer;
-use machine::answer::Reason;
 use items::order::ItemOrder;
+use machine::Answer;
+use machine::Reason;
 use reclaim::reclaimer::Reclaimer;
 
 impl<R: Reclaimer> Board<R> {
@@ -23,18 +20,18 @@ impl<R: Reclaimer> Board<R> {
         ensures after { λ _. ⌜ view state (now (self .exit)) ≡ ran model (compared order value (now (items .entry))) (length (now (items .entry))) (view state (now (self .entry))) (now (words .entry)) .after ⌝ }
         ensures written { λ _. ⌜ now (answers .exit) ≡ ran model (compared order value (now (items .entry))) (length (now (items .entry))) (view state (now (self .entry))) (now (words .entry)) .answers ++ drop (length (now (words .entry))) (now (answers .entry)) ⌝ }
     {
-        for (i, w) in words.iter().enumerate() {
-            answers[i] = self.word(items, *w);
+        for (i, word) in words.iter().enumerate() {
+            answers[i] = self.word(items, *word);
         }
     }
 
-    // Does the words in order, and says how many they were.
-    // A board that came from an opening by words on these items has come so again, and the laws hold of the whole run.
+    // Does the words in order, writes one answer for each, leaves the other answers as they were, and says how many words there were.
+    // A board that came from an opening by words on one list has come so again, and its whole run keeps the promise.
     pub fn run<T: ItemOrder>(&mut self, items: &[T], words: &[u32], answers: &mut [Answer]) -> Result<usize, Reason>
         ensures after { λ _. ⌜ view state (now (self .exit)) ≡ running model (compared order value (now (items .entry))) (length (now (items .entry))) (view state (now (self .entry))) (now (words .entry)) (now (answers .entry)) .after ⌝ }
         ensures written { λ _. ⌜ now (answers .exit) ≡ running model (compared order value (now (items .entry))) (length (now (items .entry))) (view state (now (self .entry))) (now (words .entry)) (now (answers .entry)) .written ⌝ }
         ensures value { λ r. ⌜ r ≡ running model (compared order value (now (items .entry))) (length (now (items .entry))) (view state (now (self .entry))) (now (words .entry)) (now (answers .entry)) .value ⌝ }
-        ensures laws { λ _. ⌜ Carries model order value (now (items .entry)) (view state (now (self .entry))) (view state (now (self .exit))) (running model (compared order value (now (items .entry))) (length (now (items .entry))) (view state (now (self .entry))) (now (words .entry)) (now (answers .entry)) .seen) ⌝ }
+        ensures promise { λ _. ⌜ Carries model order value (now (items .entry)) (view state (now (self .entry))) (view state (now (self .exit))) (running model (compared order value (now (items .entry))) (length (now (items .entry))) (view state (now (self .entry))) (now (words .entry)) (now (answers .entry)) .seen) ⌝ }
     {
         if items.len() != self.items as usize {
             return Err(Reason::OtherItems);
@@ -44,12 +41,5 @@ impl<R: Reclaimer> Board<R> {
         }
         self.each(items, words, answers);
         Ok(words.len())
-    }
-
-    // The held and the free cells.
-    pub fn tallies(&self) -> (u16, u16)
-        ensures { λ r. ⌜ r ≡ (model .count (state (now (self .entry) .reclaimer)), length (view state (now (self .entry)) .shared .free)) ⌝ }
-    {
-        (self.reclaimer.held_count(), self.free.count())
     }
 }

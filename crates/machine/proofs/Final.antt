@@ -17,7 +17,7 @@ use Rattle.machine.proofs.Trace.{Status, outside, under, decided, status, Orde
 use Rattle.machine.specs.Serial.{members}
 use Rattle.machine.specs.Laws.{Promise}
 use Rattle.machine.specs.Words.{parsed}
-use Rattle.machine.specs.Machine.{Adding, pushing, inserting, Event, Trace, Machine, opening, answering, refusing, acting, worded, ran, opened}
+use Rattle.machine.specs.Machine.{Adding, pushing, inserting, Event, Trace, Machine, opening, answering, refusing, moving, worded, ran, opened}
 use Rattle.machine.specs.declared.word.Kind.the-variants.{Begin}
 use Rattle.machine.specs.declared.word.Word.the-variants.{Of}
 use Rattle.std.specs.declared.result.Result.the-variants.{Ok}
@@ -276,7 +276,7 @@ module _ {State : Type 0} {M : Model State} {sessions cells : ℕ} (L : Rules M 
   -- a sound word that begins an operation of a session outside does what the begin does
   next-word : (m : Machine State) (w s : ℕ) (op : Op) → m .stage s ≡ Outside → parsed w (m .sessions) (m .items) ≡ Ok (Of s (Begin op))
     → worded M (cmpOf O val) (m .items) m w .answer ≡ beginning M (m .memory) s op .answer
-  unfolding worded acting
+  unfolding worded moving
   next-word m w s op out e =
       ap (λ b. cond b (answering M (cmpOf O val) m (parsed w (m .sessions) (m .items))) (refusing M m reason.OtherItems) .answer) (eq-eqb (m .items) (m .items) refl)
       ∙ (ap (λ r. answering M (cmpOf O val) m r .answer) e ∙ ap (λ g. opening M (m .memory) s op g .answer) out)

@@ -14,13 +14,13 @@ use Rattle.machine.specs.declared.word.Kind.the-variants.{Step, Begin}
 use Rattle.machine.specs.declared.word.Word.{Word}
 use Rattle.machine.specs.declared.word.Word.the-variants.{Tidy, Of}
 use Rattle.machine.specs.Words.{parsed}
-use Rattle.machine.specs.Machine.{Machine, acting, answering, refusing, worded, ran}
+use Rattle.machine.specs.Machine.{Machine, moving, answering, refusing, worded, ran}
 
 module _ {State : Type 0} (M : Model State) (cmp : ℕ → ℕ → Ordering) (n : ℕ) where
   same-sizes : (m : Machine State) (t : Bool) (r : Result Word Reason)
     → (cond t (answering M cmp m r) (refusing M m reason.OtherItems) .after .sessions ≡ m .sessions)
     × (cond t (answering M cmp m r) (refusing M m reason.OtherItems) .after .items ≡ m .items)
-  unfolding acting
+  unfolding moving
   same-sizes m false r = (refl, refl)
   same-sizes m true (Err why) = (refl, refl)
   same-sizes m true (Ok Tidy) = (refl, refl)

@@ -85,3 +85,11 @@ module _ {State I V : Type 0} (M : Model State) (law : Lawful M) (cmp : V → V 
       let k = subst P₁ (sym e) (comes items m ws h c) in
       (k, kept-so-far items _ _ k)
   carries given m ws n items h (inr ne) c = absurd (ne (n ∙ own-number items m h c))
+
+  -- one word
+  pub one-word : (given : List I) (m : Machine State) (w : ℕ) → length given ≡ m .items
+    → Carries M cmp value given m (worded M (compared cmp value given) (length given) m w .after) (worded M (compared cmp value given) (length given) m w .seen)
+  unfolding ran
+  one-word given m w n =
+      let d = worded M (compared cmp value given) (length given) m w in
+      subst (Carries M cmp value given m (d .after)) (append-nil (d .seen)) (carries given m (w ∷ []) n)

@@ -52,7 +52,7 @@ use Rattle.machine.specs.declared.word.Kind.the-variants.{Step, Begin}
 use Rattle.machine.specs.declared.word.Word.{Word}
 use Rattle.machine.specs.declared.word.Word.the-variants.{Tidy, Of}
 use Rattle.machine.specs.Words.{parsed}
-use Rattle.machine.specs.Machine.{Machine, Tidied, shelve, collected, gone, refusing, acting, answering, worded}
+use Rattle.machine.specs.Machine.{Machine, Tidied, shelve, collected, gone, refusing, moving, answering, worded}
 use Rattle.machine.proofs.Free
 use Rattle.machine.proofs.Ranges.{InRange, parsed-range}
 
@@ -248,7 +248,7 @@ module _ {State : Type 0} {M : Model State} {sessions cells : ℕ} (L : Rules M 
 
   did : (m : Machine State) (h : List Event) → m .sessions ≡ sessions → Inv L O val (history m (reverse h)) → (t : Bool) (r : Result Word Reason) → InRange (m .sessions) r
     → Inv L O val (history (cond t (answering M cmp₁ m r) (refusing M m reason.OtherItems) .after) (reverse (h ++ cond t (answering M cmp₁ m r) (refusing M m reason.OtherItems) .seen)))
-  unfolding acting
+  unfolding moving
   did m h e i false r g = grew m h [] i
   did m h e i true (Err why) g = grew m h [] i
   did m h e i true (Ok Tidy) g =

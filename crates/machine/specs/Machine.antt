@@ -365,6 +365,11 @@ module _ {State : Type 0} (M : Model State) where
   opening h s op (MarkCell k q c n) = busy h (MarkCell k q c n)
   opening h s op (RemoveCell k q c n) = busy h (RemoveCell k q c n)
 
+  -- the session's stage and the word's kind together decide what happens
+  unfoldable pub moving : (ℕ → ℕ → Ordering) → Memory State → ℕ → Stage → Kind → Outcome State
+  moving cmp h s g Step = stepping cmp h s g
+  moving cmp h s g (Begin op) = opening h s op g
+
   -- tidy: collect until none is answered, each cell answered goes on the free stack; at most so often
   abbrev pub stop : {X : Type 0} → Option ℕ → X → X → X
   stop None x y = x
@@ -404,15 +409,10 @@ module _ {State : Type 0} (M : Model State) where
   abbrev pub refusing : Machine State → Reason → Did State
   refusing m why = record { after = m; seen = []; answer = refused why }
 
-  -- the session's stage and the word's kind together decide what happens
-  unfoldable pub acting : (ℕ → ℕ → Ordering) → Machine State → ℕ → Kind → Did State
-  acting cmp m s Step = landed m s (stepping cmp (m .memory) s (m .stage s))
-  acting cmp m s (Begin op) = landed m s (opening (m .memory) s op (m .stage s))
-
   abbrev pub answering : (ℕ → ℕ → Ordering) → Machine State → Result Word Reason → Did State
   answering cmp m (Err why) = refusing m why
   answering cmp m (Ok Tidy) = tidily m (tidyings (m .memory))
-  answering cmp m (Ok (Of s k)) = acting cmp m s k
+  answering cmp m (Ok (Of s k)) = landed m s (moving cmp (m .memory) s (m .stage s) k)
 
   -- one word, with a list of n items whose places cmp compares
   unfoldable pub worded : (ℕ → ℕ → Ordering) → ℕ → Machine State → ℕ → Did State

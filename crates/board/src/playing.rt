@@ -1,0 +1,29 @@
+ghost use Rattle.board.specs.Opens.{Played-as};
+use crate::board::Board;
+use crate::open::Unopened;
+use items::order::ItemOrder;
+use machine::Answer;
+use machine::Reason;
+use reclaim::reclaimer::Reclaimer;
+use std::alloc::Global;
+
+// Opens a board for this list of items and runs the words on it. The whole run keeps the promise.
+// Where it is refused, the reclaimer comes back as it was and the answers are untouched.
+pub fn play<R: Reclaimer, T: ItemOrder>(heap: Global, reclaimer: R, items: &[T], words: &[u32], answers: &mut [Answer]) -> Result<Board<R>, Unopened<R>>
+    ensures { λ r. ⌜ Played-as model state order value reclaimer (now (items .entry)) (now (words .entry)) (now (answers .entry)) (now (answers .exit)) r ⌝ }
+{
+    if answers.len() < words.len() {
+        return Err(Unopened { why: Reason::ShortAnswers, reclaimer });
+    }
+    if items.len() > 1024 {
+        return Err(Unopened { why: Reason::Sizes, reclaimer });
+    }
+    match Board::open(heap, reclaimer, items.len() as u16) {
+        Err(refused) => Err(refused),
+        Ok(opened) => {
+            let mut board = opened;
+            let _ = board.run(items, words, answers);
+            Ok(board)
+        }
+    }
+}
