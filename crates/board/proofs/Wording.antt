@@ -40,15 +40,15 @@ pub session-there : (w sessions items s : ℕ) (k : Kind) → parsed w sessions 
 session-there w sessions items s k e = subst (λ r. InRange sessions r) e (parsed-range w sessions items)
 
 module _ {State I V : Type 0} (M : Model State) (law : Lawful M) (cmp : V → V → Ordering) (value : I → V)
-  (same : (x y : V) → cmp x y ≡ Equal → x ≡ y) (itself : (x : V) → cmp x x ≡ Equal) (sides : (x y : V) → cmp y x ≡ reversed (cmp x y))
-  (smaller : (x y z : V) → cmp x y ≡ Less → cmp y z ≡ Less → cmp x z ≡ Less) where
+    (same : (x y : V) → cmp x y ≡ Equal → x ≡ y) (itself : (x : V) → cmp x x ≡ Equal) (sides : (x y : V) → cmp y x ≡ reversed (cmp x y))
+    (smaller : (x y z : V) → cmp x y ≡ Less → cmp y z ≡ Less → cmp x z ≡ Less) where
   pub word-carries : (given : List I) (m next : Machine State) (w : ℕ) → next ≡ worded M (compared cmp value given) (length given) m w .after
-    → Carries M cmp value given m next (worded M (compared cmp value given) (length given) m w .seen)
+      → Carries M cmp value given m next (worded M (compared cmp value given) (length given) m w .seen)
   word-carries given m next w e =
       subst (λ y. Carries M cmp value given m y (worded M (compared cmp value given) (length given) m w .seen)) (sym e) (go (cases-eq (length given) (m .items)))
     where
       go : (length given ≡ m .items) ⊎ (length given ≡ m .items → ⊥)
-        → Carries M cmp value given m (worded M (compared cmp value given) (length given) m w .after) (worded M (compared cmp value given) (length given) m w .seen)
+          → Carries M cmp value given m (worded M (compared cmp value given) (length given) m w .after) (worded M (compared cmp value given) (length given) m w .seen)
       go (inl n) = one-word M law cmp value same itself sides smaller given m w n
       go (inr ne) =
           let q = other-items M (compared cmp value given) (length given) m w ne in

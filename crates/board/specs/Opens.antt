@@ -57,7 +57,7 @@ pub record Played {R S I V : Type 0} (M : Model S) (st : R → S) (cmp : V → V
 abbrev pub Not-played : {R S : Type 0} → Model S → (R → S) → R → ℕ → List ℕ → List Answer → Unopened R → Type 0
 Not-played M st r items words out e =
     e ≡ cond (ltb (length out) (length words)) (refused r reason.ShortAnswers)
-          (cond (bad-sizes M (st r) items) (refused r reason.Sizes) (cond (in-use M (st r)) (refused r reason.InUse) (refused r reason.Memory)))
+    (cond (bad-sizes M (st r) items) (refused r reason.Sizes) (cond (in-use M (st r)) (refused r reason.InUse) (refused r reason.Memory)))
 
 -- the board and the answers of an opening with a run; or why there was none, with the answers untouched
 abbrev pub Played-as : {R S I V : Type 0} → Model S → (R → S) → (V → V → Ordering) → (I → V) → R → List I → List ℕ → List Answer → List Answer → Result (Board R) (Unopened R) → Type 0

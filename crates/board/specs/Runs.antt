@@ -24,15 +24,15 @@ refuses m out why = record { after = m; seen = []; written = out; value = Err wh
 
 abbrev pub does : {S : Type 0} → Model S → (ℕ → ℕ → Ordering) → ℕ → Machine S → List ℕ → List Answer → Run S
 does M cmp n m words out =
-    record
-      { after = ran M cmp n m words .after
-      ; seen = ran M cmp n m words .seen
-      ; written = ran M cmp n m words .answers ++ drop (length words) out
-      ; value = Ok (length words)
-      }
+    record {
+      after = ran M cmp n m words .after;
+      seen = ran M cmp n m words .seen;
+      written = ran M cmp n m words .answers ++ drop (length words) out;
+      value = Ok (length words);
+    }
 
 abbrev pub running : {S : Type 0} → Model S → (ℕ → ℕ → Ordering) → ℕ → Machine S → List ℕ → List Answer → Run S
 running M cmp n m words out =
     cond (eqb n (m .items))
-      (cond (ltb (length out) (length words)) (refuses m out reason.ShortAnswers) (does M cmp n m words out))
-      (refuses m out reason.OtherItems)
+    (cond (ltb (length out) (length words)) (refuses m out reason.ShortAnswers) (does M cmp n m words out))
+    (refuses m out reason.OtherItems)

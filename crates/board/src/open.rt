@@ -32,14 +32,28 @@ impl<R: Reclaimer> Board<R> {
     {
         let (sessions, cells) = reclaimer.sizes();
         if sessions == 0 || sessions > 8 || cells == 0 || cells > 256 || items > 1024 {
-            return Err(Unopened { why: Reason::Sizes, reclaimer });
+            return Err(Unopened {
+                why: Reason::Sizes,
+                reclaimer,
+            });
         }
         if reclaimer.held_count() > 0 || some_inside(&reclaimer) {
-            return Err(Unopened { why: Reason::InUse, reclaimer });
+            return Err(Unopened {
+                why: Reason::InUse,
+                reclaimer,
+            });
         }
         match Memory::new(heap, reclaimer) {
-            Ok(memory) => Ok(Board { memory, stages: [Stage::Outside; 8], sessions, items }),
-            Err(reclaimer) => Err(Unopened { why: Reason::Memory, reclaimer }),
+            Ok(memory) => Ok(Board {
+                memory,
+                stages: [Stage::Outside; 8],
+                sessions,
+                items,
+            }),
+            Err(reclaimer) => Err(Unopened {
+                why: Reason::Memory,
+                reclaimer,
+            }),
         }
     }
 }

@@ -9,14 +9,26 @@ use std::alloc::Global;
 
 // Opens a board for this list of items and runs the words on it. The whole run keeps the promise.
 // Where it is refused, the reclaimer comes back as it was and the answers are untouched.
-pub fn play<R: Reclaimer, T: ItemOrder>(heap: Global, reclaimer: R, items: &[T], words: &[u32], answers: &mut [Answer]) -> Result<Board<R>, Unopened<R>>
+pub fn play<R: Reclaimer, T: ItemOrder>(
+    heap: Global,
+    reclaimer: R,
+    items: &[T],
+    words: &[u32],
+    answers: &mut [Answer],
+) -> Result<Board<R>, Unopened<R>>
     ensures { λ r. ⌜ Played-as model state order value reclaimer (now (items .entry)) (now (words .entry)) (now (answers .entry)) (now (answers .exit)) r ⌝ }
 {
     if answers.len() < words.len() {
-        return Err(Unopened { why: Reason::ShortAnswers, reclaimer });
+        return Err(Unopened {
+            why: Reason::ShortAnswers,
+            reclaimer,
+        });
     }
     if items.len() > 1024 {
-        return Err(Unopened { why: Reason::Sizes, reclaimer });
+        return Err(Unopened {
+            why: Reason::Sizes,
+            reclaimer,
+        });
     }
     match Board::open(heap, reclaimer, items.len() as u16) {
         Err(refused) => Err(refused),

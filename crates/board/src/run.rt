@@ -27,7 +27,12 @@ impl<R: Reclaimer> Board<R> {
 
     // Does the words in order, writes one answer for each, leaves the other answers as they were, and says how many words there were.
     // A board that came from an opening by words on one list has come so again, and its whole run keeps the promise.
-    pub fn run<T: ItemOrder>(&mut self, items: &[T], words: &[u32], answers: &mut [Answer]) -> Result<usize, Reason>
+    pub fn run<T: ItemOrder>(
+        &mut self,
+        items: &[T],
+        words: &[u32],
+        answers: &mut [Answer],
+    ) -> Result<usize, Reason>
         ensures after { λ _. ⌜ view state (now (self .exit)) ≡ running model (compared order value (now (items .entry))) (length (now (items .entry))) (view state (now (self .entry))) (now (words .entry)) (now (answers .entry)) .after ⌝ }
         ensures written { λ _. ⌜ now (answers .exit) ≡ running model (compared order value (now (items .entry))) (length (now (items .entry))) (view state (now (self .entry))) (now (words .entry)) (now (answers .entry)) .written ⌝ }
         ensures value { λ r. ⌜ r ≡ running model (compared order value (now (items .entry))) (length (now (items .entry))) (view state (now (self .entry))) (now (words .entry)) (now (answers .entry)) .value ⌝ }

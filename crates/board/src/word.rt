@@ -13,7 +13,6 @@ use machine::Kind;
 use machine::Reason;
 use machine::Word;
 use reclaim::reclaimer::Reclaimer;
-use steps::Moved;
 use steps::act;
 
 impl<R: Reclaimer> Board<R> {
@@ -23,8 +22,8 @@ impl<R: Reclaimer> Board<R> {
         ensures after { λ _. ⌜ view state (now (self .exit)) ≡ landed model (view state (now (self .entry))) session (moving model (compared order value (now (items .entry))) (view state (now (self .entry)) .memory) session (view state (now (self .entry)) .stage session) kind) .after ⌝ }
         ensures answer { λ r. ⌜ r ≡ moving model (compared order value (now (items .entry))) (view state (now (self .entry)) .memory) session (view state (now (self .entry)) .stage session) kind .answer ⌝ }
     {
-        let at = self.stages[session as usize];
-        let Moved { stage, answer } = act(&mut self.memory, session, items, at, kind);
+        let mut stage = self.stages[session as usize];
+        let answer = act(&mut self.memory, session, items, &mut stage, kind);
         self.stages[session as usize] = stage;
         answer
     }

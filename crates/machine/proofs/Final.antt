@@ -104,45 +104,45 @@ link-kind (freshOf s) h = refl
 link-kind inList h = absurd (omega arith)
 
 module _ {State : Type 0} {M : Model State} {sessions cells : ℕ} (L : Rules M sessions cells) {V : Type 0} (O : Order V) (val : ℕ → V) where
-  opening-inv : (x : State) → L .fit x → ((t : ℕ) → L .meaning x .inside t → ⊥) → ((c : ℕ) → L .meaning x .held c → ⊥) → Inv L O val (record
-          { memory = record { reclaimer = x; head = None; front = None; free = counting 0 cells; link = λ c. None; mark = λ c. false; item = λ c. 0 }
-          ; stage = λ s. Outside
-          ; seen = []
-          })
+  opening-inv : (x : State) → L .fit x → ((t : ℕ) → L .meaning x .inside t → ⊥) → ((c : ℕ) → L .meaning x .held c → ⊥) → Inv L O val (record {
+    memory = record { reclaimer = x; head = None; front = None; free = counting 0 cells; link = λ c. None; mark = λ c. false; item = λ c. 0 };
+    stage = λ s. Outside;
+    seen = [];
+  })
   unfolding Chain Seg Sorted live deeds played Orderly Truthful status
   opening-inv x fx out un =
-      record
-        { place = start cells
-        ; chain = []
-        ; line = []
-        ; sound =
-            record
-              { fit = fx
-              ; free = start-stacked cells 0 cells (omega arith)
-              ; freeBack = λ c k e. counting-in c 0 cells (omega arith) (low c k e (cases-lt c cells))
-              ; heldOn = λ c h. absurd (un c h)
-              ; heldBack = λ c e. let k = ap kind e in let m = start-kind cells c in absurd (omega arith)
-              ; chain = refl
-              ; line = refl
-              ; lineBack = λ c e. let k = ap kind e in let m = start-kind cells c in omega arith
-              ; linked = λ c n e. let z : _≡_ {A = ℕ} 0 1 = cc in absurd (omega arith)
-              ; sorted = tt
-              ; stack = refl
-              ; set = refl
-              ; bound = start-out cells
-              ; within = λ c h e. let k = ap kind (sym (start-in cells c h) ∙ e) in omega arith
-              ; count = sym (total-none (start cells) cells (λ c. link-kind (start cells c) (start-kind cells c)))
-              ; orderly = tt
-              ; truthful = tt
-              }
-        ; each =
+      record {
+        place = start cells;
+        chain = [];
+        line = [];
+        sound =
+            record {
+              fit = fx;
+              free = start-stacked cells 0 cells (omega arith);
+              freeBack = λ c k e. counting-in c 0 cells (omega arith) (low c k e (cases-lt c cells));
+              heldOn = λ c h. absurd (un c h);
+              heldBack = λ c e. let k = ap kind e in let m = start-kind cells c in absurd (omega arith);
+              chain = refl;
+              line = refl;
+              lineBack = λ c e. let k = ap kind e in let m = start-kind cells c in omega arith;
+              linked = λ c n e. let z : _≡_ {A = ℕ} 0 1 = cc in absurd (omega arith);
+              sorted = tt;
+              stack = refl;
+              set = refl;
+              bound = start-out cells;
+              within = λ c h e. let k = ap kind (sym (start-in cells c h) ∙ e) in omega arith;
+              count = sym (total-none (start cells) cells (λ c. link-kind (start cells c) (start-kind cells c)));
+              orderly = tt;
+              truthful = tt;
+            };
+        each =
             λ s.
-              record
-                { staged = (out s, refl)
-                ; owns = λ c e. let k = ap kind e in let m = start-kind cells c in absurd (omega arith)
-                }
-        ; debts = λ c e m. absurd (true≢false (sym m))
-        }
+            record {
+              staged = (out s, refl);
+              owns = λ c e. let k = ap kind e in let m = start-kind cells c in absurd (omega arith);
+            };
+        debts = λ c e m. absurd (true≢false (sym m));
+      }
     where
       low : (c k : ℕ) → start cells c ≡ freeAt k → (c < cells) ⊎ (cells ≤ c) → c < 0 + cells
       low c k e (inl h) = omega arith
@@ -205,7 +205,7 @@ module _ {State : Type 0} {M : Model State} {sessions cells : ℕ} (L : Rules M 
     depth =
         let x : length (played (O .cmp) val (deeds (b .seen)) .stack) ≡ length (i .chain) = ap length (sym (i .sound .stack)) ∙ length-map (i .chain) (b .memory .item) in
         let y : length (played (O .cmp) val (deeds (b .seen)) .set) ≡ length (i .line) =
-              ap length (sym (i .sound .set)) ∙ Lists.live-length O (key L O val A) (b .memory .mark) (i .line) unmarked in
+        ap length (sym (i .sound .set)) ∙ Lists.live-length O (key L O val A) (b .memory .mark) (i .line) unmarked in
         let z = i .sound .count in
         omega arith
 
@@ -235,11 +235,11 @@ module _ {State : Type 0} {M : Model State} {sessions cells : ℕ} (L : Rules M 
     way-no e = let z : _≡_ {A = ℕ} 0 23 = ap (λ (a : Answer). a .value) e in omega arith
 
     refused-on : (s : ℕ) (k : Adding) (p : ℕ) → (l : List ℕ) → b .memory .free ≡ l → fetched M (b .memory) s k p l .answer ≡ refused reason.NoCell
-      → members (played (O .cmp) val (deeds (b .seen))) ≡ cells
+        → members (played (O .cmp) val (deeds (b .seen))) ≡ cells
     refused-on s k p [] e q = go (M .picks (b .memory .reclaimer)) refl q
       where
         go : (o : Option ℕ) → M .picks (b .memory .reclaimer) ≡ o → refetched M (b .memory) s k p o .answer ≡ refused reason.NoCell
-          → members (played (O .cmp) val (deeds (b .seen))) ≡ cells
+            → members (played (O .cmp) val (deeds (b .seen))) ≡ cells
         go (Some c) a q = absurd (way-no q)
         go None a q = why (w .why)
           where
@@ -252,7 +252,7 @@ module _ {State : Type 0} {M : Model State} {sessions cells : ℕ} (L : Rules M 
     refused-on s k p (f ∷ rest) e q = absurd (way-no q)
 
     refused-back : members (played (O .cmp) val (deeds (b .seen))) ≡ cells → (s : ℕ) (k : Adding) (p : ℕ) → (l : List ℕ) → b .memory .free ≡ l
-      → fetched M (b .memory) s k p l .answer ≡ refused reason.NoCell
+        → fetched M (b .memory) s k p l .answer ≡ refused reason.NoCell
     refused-back n s k p [] e = go (M .picks (b .memory .reclaimer)) refl
       where
         go : (o : Option ℕ) → M .picks (b .memory .reclaimer) ≡ o → refetched M (b .memory) s k p o .answer ≡ refused reason.NoCell
@@ -268,14 +268,14 @@ module _ {State : Type 0} {M : Model State} {sessions cells : ℕ} (L : Rules M 
 
     -- of a push and of an insert
     room : (s : ℕ) (k : Adding) (p : ℕ)
-      → ((beginning M (b .memory) s (op-of k p) .answer ≡ refused reason.NoCell) → members (played (O .cmp) val (deeds (b .seen))) ≡ cells)
-      × (members (played (O .cmp) val (deeds (b .seen))) ≡ cells → beginning M (b .memory) s (op-of k p) .answer ≡ refused reason.NoCell)
+        → ((beginning M (b .memory) s (op-of k p) .answer ≡ refused reason.NoCell) → members (played (O .cmp) val (deeds (b .seen))) ≡ cells)
+        × (members (played (O .cmp) val (deeds (b .seen))) ≡ cells → beginning M (b .memory) s (op-of k p) .answer ≡ refused reason.NoCell)
     room s pushing p = (refused-on s pushing p (b .memory .free) refl, λ n. refused-back n s pushing p (b .memory .free) refl)
     room s inserting p = (refused-on s inserting p (b .memory .free) refl, λ n. refused-back n s inserting p (b .memory .free) refl)
 
   -- a sound word that begins an operation of a session outside does what the begin does
   next-word : (m : Machine State) (w s : ℕ) (op : Op) → m .stage s ≡ Outside → parsed w (m .sessions) (m .items) ≡ Ok (Of s (Begin op))
-    → worded M (cmpOf O val) (m .items) m w .answer ≡ beginning M (m .memory) s op .answer
+      → worded M (cmpOf O val) (m .items) m w .answer ≡ beginning M (m .memory) s op .answer
   unfolding worded moving
   next-word m w s op out e =
       ap (λ b. cond b (answering M (cmpOf O val) m (parsed w (m .sessions) (m .items))) (refusing M m reason.OtherItems) .answer) (eq-eqb (m .items) (m .items) refl)
@@ -283,40 +283,40 @@ module _ {State : Type 0} {M : Model State} {sessions cells : ℕ} (L : Rules M 
 
   kept : (m : Machine State) (h : List Event) → Inv L O val (Words.history L O val m (reverse h)) → Promise M (O .cmp) val (m .items) m h
   kept m h i =
-      record
-        { safe-reuse = safely h (i .sound .orderly)
-        ; one-decision = once h (i .sound .orderly)
-        ; serial-order = serially (O .cmp) val h (i .sound .orderly) (i .sound .truthful)
-        ; room =
+      record {
+        safe-reuse = safely h (i .sound .orderly);
+        one-decision = once h (i .sound .orderly);
+        serial-order = serially (O .cmp) val h (i .sound .orderly) (i .sound .truthful);
+        room =
             λ inside w s p k e.
-              let b = Words.history L O val m (reverse h) in
-              let nobody = all-outside h (i .sound .orderly) inside in
-              let r = room b i nobody s k p in
-              let a = next-word m w s (op-of k p) (idle-at b i nobody s) e in
-              let c = L .sized (m .memory .reclaimer) (i .sound .fit) in
-              let n = ap members (left-with (O .cmp) val h (i .sound .orderly)) in
-              (λ z. n ∙ (r .0 (sym a ∙ z) ∙ sym c), λ z. a ∙ r .1 (sym n ∙ (z ∙ c)))
-        }
+            let b = Words.history L O val m (reverse h) in
+            let nobody = all-outside h (i .sound .orderly) inside in
+            let r = room b i nobody s k p in
+            let a = next-word m w s (op-of k p) (idle-at b i nobody s) e in
+            let c = L .sized (m .memory .reclaimer) (i .sound .fit) in
+            let n = ap members (left-with (O .cmp) val h (i .sound .orderly)) in
+            (λ z. n ∙ (r .0 (sym a ∙ z) ∙ sym c), λ z. a ∙ r .1 (sym n ∙ (z ∙ c)));
+      }
 
   pub run-inv : (m : Machine State) (h : List Event) (n : ℕ) (ws : List ℕ) → m .sessions ≡ sessions → Inv L O val (Words.history L O val m (reverse h))
-    → Inv L O val (Words.history L O val (ran M (cmpOf O val) n m ws .after) (reverse (h ++ ran M (cmpOf O val) n m ws .seen)))
+      → Inv L O val (Words.history L O val (ran M (cmpOf O val) n m ws .after) (reverse (h ++ ran M (cmpOf O val) n m ws .seen)))
   unfolding ran
   run-inv m h n [] e i = subst (λ x. Inv L O val (Words.history L O val m (reverse x))) (sym (append-nil h)) i
   run-inv m h n (w ∷ ws) e i =
       let d = worded M (cmpOf O val) n m w in
       let r = ran M (cmpOf O val) n (d .after) ws in
       subst (λ x. Inv L O val (Words.history L O val (r .after) (reverse x))) (append-assoc h (d .seen) (r .seen))
-        (run-inv (d .after) (h ++ d .seen) n ws (worded-sizes M (cmpOf O val) n m w .0 ∙ e) (Words.worded-inv L O val m h n w e i))
+      (run-inv (d .after) (h ++ d .seen) n ws (worded-sizes M (cmpOf O val) n m w .0 ∙ e) (Words.worded-inv L O val m h n w e i))
 
   pub final : (x : State) (n : ℕ) → L .fit x → ((t : ℕ) → L .meaning x .inside t → ⊥) → ((c : ℕ) → L .meaning x .held c → ⊥)
-    → M .sessions x ≡ sessions → M .cells x ≡ cells → (ws : List ℕ)
-    → Promise M (O .cmp) val n (ran M (cmpOf O val) n (opened M x n) ws .after) (ran M (cmpOf O val) n (opened M x n) ws .seen)
+      → M .sessions x ≡ sessions → M .cells x ≡ cells → (ws : List ℕ)
+      → Promise M (O .cmp) val n (ran M (cmpOf O val) n (opened M x n) ws .after) (ran M (cmpOf O val) n (opened M x n) ws .seen)
   final x n fx o u es ec ws =
-      let P₁ : ℕ → Type 0 = λ z. Inv L O val (record
-            { memory = record { reclaimer = x; head = None; front = None; free = counting 0 z; link = λ c. None; mark = λ c. false; item = λ c. 0 }
-            ; stage = λ s. Outside
-            ; seen = []
-            }) in
+      let P₁ : ℕ → Type 0 = λ z. Inv L O val (record {
+        memory = record { reclaimer = x; head = None; front = None; free = counting 0 z; link = λ c. None; mark = λ c. false; item = λ c. 0 };
+        stage = λ s. Outside;
+        seen = [];
+      }) in
       let i = run-inv (opened M x n) [] n ws es (subst P₁ (sym ec) (opening-inv x fx o u)) in
       let r = ran M (cmpOf O val) n (opened M x n) ws in
       subst (λ k. Promise M (O .cmp) val k (r .after) (r .seen)) (ran-items M (cmpOf O val) n (opened M x n) ws) (kept (r .after) (r .seen) i)

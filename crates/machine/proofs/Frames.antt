@@ -76,28 +76,28 @@ status-completed s a tr = cond-true (eqb s s) outside (status s tr) (eq-eqb s s 
 
 -- lists under a change of places
 pub stacked-frame : (P Q : ℕ → Place) (l : List ℕ) → ((c k : ℕ) → P c ≡ freeAt k → k < length l → Q c ≡ freeAt k)
-  → Stacked P l → Stacked Q l
+    → Stacked P l → Stacked Q l
 unfolding Stacked
 stacked-frame P Q [] f t = tt
 stacked-frame P Q (c ∷ l) f t =
     (f c (length l) (t .0) (omega arith), stacked-frame P Q l (λ d k e h. f d k e (omega arith)) (t .1))
 
 pub chain-frame : (P Q : ℕ → Place) (k j : ℕ → Option ℕ) (h : Option ℕ) (l : List ℕ)
-  → ((c n : ℕ) → P c ≡ linkAt n → n < length l → Q c ≡ linkAt n)
-  → ((c n : ℕ) → P c ≡ linkAt n → n < length l → j c ≡ k c)
-  → Chain P k h l → Chain Q j h l
+    → ((c n : ℕ) → P c ≡ linkAt n → n < length l → Q c ≡ linkAt n)
+    → ((c n : ℕ) → P c ≡ linkAt n → n < length l → j c ≡ k c)
+    → Chain P k h l → Chain Q j h l
 unfolding Chain
 chain-frame P Q k j h [] f g t = t
-chain-frame P Q k j h (c ∷ l) f g t =
-    (t .0
-    , f c (length l) (t .1) (omega arith)
-    , rw (g c (length l) (t .1) (omega arith))
-        (chain-frame P Q k j (k c) l (λ d n e m. f d n e (omega arith)) (λ d n e m. g d n e (omega arith)) (t .2))
-    )
+chain-frame P Q k j h (c ∷ l) f g t = (
+  t .0,
+  f c (length l) (t .1) (omega arith),
+  rw (g c (length l) (t .1) (omega arith))
+      (chain-frame P Q k j (k c) l (λ d n e m. f d n e (omega arith)) (λ d n e m. g d n e (omega arith)) (t .2)),
+)
 
 pub map-frame : (P : ℕ → Place) (k : ℕ → Option ℕ) (i j : ℕ → ℕ) (h : Option ℕ) (l : List ℕ)
-  → ((c n : ℕ) → P c ≡ linkAt n → j c ≡ i c)
-  → Chain P k h l → map j l ≡ map i l
+    → ((c n : ℕ) → P c ≡ linkAt n → j c ≡ i c)
+    → Chain P k h l → map j l ≡ map i l
 unfolding Chain
 map-frame P k i j h [] g t = refl
 map-frame P k i j h (c ∷ l) g t =
@@ -122,7 +122,7 @@ total-put P c v (suc n) h = go (λ m. total-put P c v n m) (cases-eq n c)
     go : (c < n → total (put P c v) n + isLink (P c) ≡ total P n + isLink v) → (n ≡ c) ⊎ (n ≡ c → ⊥) → isLink (put P c v n) + total (put P c v) n + isLink (P c) ≡ isLink (P n) + total P n + isLink v
     go ih (inl e) =
         let a : total (put P c v) n ≡ total P n =
-              total-frame P (put P c v) n (λ d m. ap isLink (put-apart P c v d (λ q. omega arith))) in
+        total-frame P (put P c v) n (λ d m. ap isLink (put-apart P c v d (λ q. omega arith))) in
         let b : put P c v n ≡ v = ap (put P c v) e ∙ put-here P c v in
         let b′ : isLink (put P c v n) ≡ isLink v = ap isLink b in
         let d : isLink (P c) ≡ isLink (P n) = ap (λ x. isLink (P x)) (sym e) in
@@ -172,4 +172,3 @@ full-each P (suc n) e c h =
         let a = total-small P n in
         let b = isLink-small (P n) in
         ih (omega arith) (omega arith)
-

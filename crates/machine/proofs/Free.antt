@@ -21,15 +21,15 @@ unfolding Stacked
 not-below P [] c t f = refl
 not-below P (d ∷ l) c t f =
     or-from (eqb d c) (has itself l c) (ne-eqb d c (λ e. f (length l) (omega arith) (ap P (sym e) ∙ t .0)))
-      (not-below P l c (t .1) (λ n h e. f n (omega arith) e))
+    (not-below P l c (t .1) (λ n h e. f n (omega arith) e))
 
 all-apart : (P : ℕ → Place) (l : List ℕ) → Stacked P l → distinct itself l ≡ true
 unfolding Stacked
 all-apart P [] t = refl
 all-apart P (d ∷ l) t =
     and-from (not (has itself l d)) (distinct itself l)
-      (not-from-false (has itself l d) (not-below P l d (t .1) (λ n h e. let k : freeAt (length l) ≡ freeAt n = sym (t .0) ∙ e in let q : length l ≡ n = cc in omega arith)))
-      (all-apart P l (t .1))
+    (not-from-false (has itself l d) (not-below P l d (t .1) (λ n h e. let k : freeAt (length l) ≡ freeAt n = sym (t .0) ∙ e in let q : length l ≡ n = cc in omega arith)))
+    (all-apart P l (t .1))
 
 all-in : (P : ℕ → Place) (cells : ℕ) (l : List ℕ) → ((c : ℕ) → cells ≤ c → P c ≡ nowhere) → Stacked P l → all-below itself cells l ≡ true
 unfolding Stacked
@@ -46,9 +46,9 @@ shelve-cons c l h = cond-true (ltb (length l) 256) (c ∷ l) l (lt-ltb (length l
 
 module _ {State : Type 0} {M : Model State} {sessions cells : ℕ} (L : Rules M sessions cells) {V : Type 0} (O : Order V) (val : ℕ → V) where
   pub shelves : (A : Scene State) (c : ℕ) → Sound L O val A → c < cells → (kind (A .place c) ≡ 1 → ⊥)
-    → shelve c (A .memory .free) ≡ c ∷ A .memory .free
+      → shelve c (A .memory .free) ≡ c ∷ A .memory .free
   shelves A c a h ne =
       let r = room itself (A .memory .free) cells c (all-apart (A .place) (A .memory .free) (a .free)) (all-in (A .place) cells (A .memory .free) (a .bound) (a .free)) h
-            (not-below (A .place) (A .memory .free) c (a .free) (λ n q e. let k = ap kind e in ne k)) in
+      (not-below (A .place) (A .memory .free) c (a .free) (λ n q e. let k = ap kind e in ne k)) in
       let f = L .few in
       shelve-cons c (A .memory .free) (omega arith)

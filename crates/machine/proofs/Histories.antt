@@ -63,23 +63,23 @@ other-session s f ne = (λ op. others ne, λ a. others ne, λ a. others ne)
 
 silent-snoc : (s : ℕ) (h : History) (f : Event) → Unmarked s f → Silent s h → Silent s (h ++ f ∷ [])
 silent-snoc s h f u q =
-    record
-      { begun = λ op. never-snoc (begins s op) h f (q .begun op) (u .0 op)
-      ; decided = λ a. never-snoc (decides s a) h f (q .decided a) (u .1 a)
-      ; completed = λ a. never-snoc (completes s a) h f (q .completed a) (u .2 a)
-      }
+    record {
+      begun = λ op. never-snoc (begins s op) h f (q .begun op) (u .0 op);
+      decided = λ a. never-snoc (decides s a) h f (q .decided a) (u .1 a);
+      completed = λ a. never-snoc (completes s a) h f (q .completed a) (u .2 a);
+    }
 
 silent-nil : (s : ℕ) → Silent s []
 silent-nil s = record { begun = λ op. tt; decided = λ a. tt; completed = λ a. tt }
 
 abbrev last-snoc : (s : ℕ) (e : Event) (h : History) (f : Event) → Unmarked s f → Last s e h → Last s e (h ++ f ∷ [])
 last-snoc s e h f u l =
-    record
-      { before = l .before
-      ; since = l .since ++ f ∷ []
-      ; there = ap (λ (x : History). x ++ f ∷ []) (l .there) ∙ append-assoc (l .before) (e ∷ l .since) (f ∷ [])
-      ; silent = silent-snoc s (l .since) f u (l .silent)
-      }
+    record {
+      before = l .before;
+      since = l .since ++ f ∷ [];
+      there = ap (λ (x : History). x ++ f ∷ []) (l .there) ∙ append-assoc (l .before) (e ∷ l .since) (f ∷ []);
+      silent = silent-snoc s (l .since) f u (l .silent);
+    }
 
 abbrev last-here : (s : ℕ) (e : Event) (h : History) → Last s e (h ++ e ∷ [])
 last-here s e h = record { before = h; since = []; there = refl; silent = silent-nil s }
@@ -108,7 +108,7 @@ at-end : (s : ℕ) (st : Status) (f : Event) (tr : List Event) → Where s st (r
 at-end s st f tr w = subst (Where s st) (sym (reverse-cons f tr)) w
 
 on-snoc : (s : ℕ) (f : Event) (tr : List Event) → Unmarked s f → status s (f ∷ tr) ≡ status s tr → Where s (status s tr) (reverse tr)
-  → Where s (status s (f ∷ tr)) (reverse (f ∷ tr))
+    → Where s (status s (f ∷ tr)) (reverse (f ∷ tr))
 on-snoc s f tr u e w =
     subst (λ x. Where s x (reverse (f ∷ tr))) (sym e) (at-end s (status s tr) f tr (where-snoc s (status s tr) (reverse tr) f u w))
 
@@ -123,7 +123,7 @@ stands-at (begins t op ∷ tr) o s = go (cases-eq s t) (stands-at tr (o .1) s)
     go : (s ≡ t) ⊎ (s ≡ t → ⊥) → Where s (status s tr) (reverse tr) → Where s (status s (begins t op ∷ tr)) (reverse (begins t op ∷ tr))
     go (inl e) w =
         subst (λ x. Where s (status s (begins x op ∷ tr)) (reverse (begins x op ∷ tr))) e
-          (at-new s (under op) (begins s op) tr (status-begun s op tr) (last-here s (begins s op) (reverse tr)))
+        (at-new s (under op) (begins s op) tr (status-begun s op tr) (last-here s (begins s op) (reverse tr)))
     go (inr ne) w = on-snoc s (begins t op) tr (other-session s (begins t op) (λ q. ne (sym q))) (status-begins t s op tr ne) w
 stands-at (touches t c ∷ tr) o s = on-snoc s (touches t c) tr (plain-event s (touches t c) (λ z. omega arith) (λ z. omega arith) (λ z. omega arith)) refl (stands-at tr (o .1) s)
 stands-at (clears t c ∷ tr) o s = on-snoc s (clears t c) tr (plain-event s (clears t c) (λ z. omega arith) (λ z. omega arith) (λ z. omega arith)) refl (stands-at tr o s)
@@ -135,15 +135,15 @@ stands-at (decides t a ∷ tr) o s = go (cases-eq s t) (stands-at tr (o .1) s)
         let u : status s tr ≡ under (o .0 .0) = ap (λ x. status x tr) e ∙ o .0 .1 in
         let l : Last s (begins s (o .0 .0)) (reverse tr) = subst (λ x. Where s x (reverse tr)) u w in
         subst (λ x. Where s (status s (decides x a ∷ tr)) (reverse (decides x a ∷ tr))) e
-          (at-new s (decided (o .0 .0) a) (decides s a) tr (status-decided s (o .0 .0) a tr u)
-            (record { last = last-here s (decides s a) (reverse tr); began = l }))
+        (at-new s (decided (o .0 .0) a) (decides s a) tr (status-decided s (o .0 .0) a tr u)
+        (record { last = last-here s (decides s a) (reverse tr); began = l }))
     go (inr ne) w = on-snoc s (decides t a) tr (other-session s (decides t a) (λ q. ne (sym q))) (status-decides t s a tr ne) w
 stands-at (completes t a ∷ tr) o s = go (cases-eq s t) (stands-at tr (o .1) s)
   where
     go : (s ≡ t) ⊎ (s ≡ t → ⊥) → Where s (status s tr) (reverse tr) → Where s (status s (completes t a ∷ tr)) (reverse (completes t a ∷ tr))
     go (inl e) w =
         subst (λ x. Where s (status s (completes x a ∷ tr)) (reverse (completes x a ∷ tr))) e
-          (at-new s outside (completes s a) tr (status-completed s a tr) (inr (a, last-here s (completes s a) (reverse tr))))
+        (at-new s outside (completes s a) tr (status-completed s a tr) (inr (a, last-here s (completes s a) (reverse tr))))
     go (inr ne) w = on-snoc s (completes t a) tr (other-session s (completes t a) (λ q. ne (sym q))) (status-completes t s a tr ne) w
 
 -- a split of the history is one of the newest-first list
@@ -151,8 +151,8 @@ turned : (tr before after : List Event) (e : Event) → reverse tr ≡ before ++
 turned tr before after e q =
     sym (reverse-reverse tr)
     ∙ (ap reverse q
-      ∙ (reverse-append before (e ∷ after)
-        ∙ (ap (λ (x : List Event). x ++ reverse before) (reverse-cons e after) ∙ append-assoc (reverse after) (e ∷ []) (reverse before))))
+    ∙ (reverse-append before (e ∷ after)
+    ∙ (ap (λ (x : List Event). x ++ reverse before) (reverse-cons e after) ∙ append-assoc (reverse after) (e ∷ []) (reverse before))))
 
 orderly-rest : (x y : List Event) → Orderly (x ++ y) → Orderly y
 unfolding Orderly
@@ -169,16 +169,16 @@ orderly-at tr before after e o q = orderly-rest (reverse after) (e ∷ reverse b
 
 -- safe reuse
 cleared-snoc : (s c : ℕ) (f : Event) (tr : List Event) → ((op : Op) → f ≡ begins s op → ⊥) → (f ≡ gives c → ⊥)
-  → law.Cleared s c (reverse tr) → law.Cleared s c (reverse (f ∷ tr))
+    → law.Cleared s c (reverse tr) → law.Cleared s c (reverse (f ∷ tr))
 cleared-snoc s c f tr nb ng k =
     subst (law.Cleared s c) (sym (reverse-cons f tr))
-      (record
-        { before = k .before
-        ; since = k .since ++ f ∷ []
-        ; there = ap (λ (x : History). x ++ f ∷ []) (k .there) ∙ append-assoc (k .before) (clears s c ∷ k .since) (f ∷ [])
-        ; own = λ op. never-snoc (begins s op) (k .since) f (k .own op) (nb op)
-        ; kept = never-snoc (gives c) (k .since) f (k .kept) ng
-        })
+    (record {
+      before = k .before;
+      since = k .since ++ f ∷ [];
+      there = ap (λ (x : History). x ++ f ∷ []) (k .there) ∙ append-assoc (k .before) (clears s c ∷ k .since) (f ∷ []);
+      own = λ op. never-snoc (begins s op) (k .since) f (k .own op) (nb op);
+      kept = never-snoc (gives c) (k .since) f (k .kept) ng;
+    })
 
 cleared-here : (s c : ℕ) (tr : List Event) → law.Cleared s c (reverse (clears s c ∷ tr))
 cleared-here s c tr = record { before = reverse tr; since = []; there = reverse-cons (clears s c) tr; own = λ op. tt; kept = tt }
@@ -192,7 +192,7 @@ cleared s c (touches t d ∷ tr) k =
     cleared-snoc s c (touches t d) tr (λ o. unlike (λ z. omega arith)) (unlike (λ z. omega arith)) (cleared s c tr k)
 cleared s c (clears t d ∷ tr) (inl k) =
     subst (λ x. law.Cleared s c (reverse (clears x d ∷ tr))) (sym (k .0))
-      (subst (λ x. law.Cleared s c (reverse (clears s x ∷ tr))) (sym (k .1)) (cleared-here s c tr))
+    (subst (λ x. law.Cleared s c (reverse (clears s x ∷ tr))) (sym (k .1)) (cleared-here s c tr))
 cleared s c (clears t d ∷ tr) (inr k) =
     cleared-snoc s c (clears t d) tr (λ o. unlike (λ z. omega arith)) (unlike (λ z. omega arith)) (cleared s c tr k)
 cleared s c (gives d ∷ tr) k =
@@ -206,7 +206,7 @@ pub safely : (h : History) → Orderly (reverse h) → Safe-reuse h
 unfolding Orderly
 safely h o before after s c q =
     subst (law.Cleared s c) (reverse-reverse before)
-      (cleared s c (reverse before) (orderly-at (reverse h) before after (touches s c) o (reverse-reverse h ∙ q) .0))
+    (cleared s c (reverse before) (orderly-at (reverse h) before after (touches s c) o (reverse-reverse h ∙ q) .0))
 
 -- one decision for each operation
 stood : (before : History) → Orderly (reverse before) → (s : ℕ) (st : Status) → status s (reverse before) ≡ st → Where s st before
@@ -216,17 +216,17 @@ stood before o s st e =
 pub once : (h : History) → Orderly (reverse h) → One-decision h
 unfolding Orderly
 once h o =
-    record
-      { begun = λ before after s op q. let z = orderly-at (reverse h) before after (begins s op) o (reverse-reverse h ∙ q) in stood before (z .1) s outside (z .0)
-      ; decided =
+    record {
+      begun = λ before after s op q. let z = orderly-at (reverse h) before after (begins s op) o (reverse-reverse h ∙ q) in stood before (z .1) s outside (z .0);
+      decided =
           λ before after s a q.
-            let z = orderly-at (reverse h) before after (decides s a) o (reverse-reverse h ∙ q) in
-            (z .0 .0, stood before (z .1) s (under (z .0 .0)) (z .0 .1))
-      ; completed =
+          let z = orderly-at (reverse h) before after (decides s a) o (reverse-reverse h ∙ q) in
+          (z .0 .0, stood before (z .1) s (under (z .0 .0)) (z .0 .1));
+      completed =
           λ before after s a q.
-            let z = orderly-at (reverse h) before after (completes s a) o (reverse-reverse h ∙ q) in
-            stood before (z .1) s (decided (z .0 .0) a) (z .0 .1) .last
-      }
+          let z = orderly-at (reverse h) before after (completes s a) o (reverse-reverse h ∙ q) in
+          stood before (z .1) s (decided (z .0 .0) a) (z .0 .1) .last;
+    }
 
 -- nobody inside: every status is outside
 module _ (h : History) (o : Orderly (reverse h)) (nobody : Nobody-inside h) where
@@ -234,18 +234,18 @@ module _ (h : History) (o : Orderly (reverse h)) (nobody : Nobody-inside h) wher
   not-under s op l =
       let c = nobody (l .before) (l .since) s op (l .there) in
       never-there (completes s (c .0)) (c .1 .0) (c .1 .1)
-        (subst (Never (completes s (c .0))) (c .1 .2) (l .silent .completed (c .0)))
+      (subst (Never (completes s (c .0))) (c .1 .2) (l .silent .completed (c .0)))
 
   not-decided : (s : ℕ) (op : Op) (a : Answer) → Chosen s op a h → ⊥
   not-decided s op a d =
       let b = d .began in
       let l = d .last in
       let split : h ≡ b .before ++ begins s op ∷ (b .since ++ decides s a ∷ l .since) =
-            l .there ∙ (ap (λ (x : History). x ++ decides s a ∷ l .since) (b .there) ∙ append-assoc (b .before) (begins s op ∷ b .since) (decides s a ∷ l .since)) in
+      l .there ∙ (ap (λ (x : History). x ++ decides s a ∷ l .since) (b .there) ∙ append-assoc (b .before) (begins s op ∷ b .since) (decides s a ∷ l .since)) in
       let c = nobody (b .before) (b .since ++ decides s a ∷ l .since) s op split in
       let none : Never (completes s (c .0)) (b .since ++ decides s a ∷ l .since) =
-            never-both (completes s (c .0)) (b .since) (decides s a ∷ l .since) (b .silent .completed (c .0))
-              (unlike (λ z. omega arith), l .silent .completed (c .0)) in
+      never-both (completes s (c .0)) (b .since) (decides s a ∷ l .since) (b .silent .completed (c .0))
+      (unlike (λ z. omega arith), l .silent .completed (c .0)) in
       never-there (completes s (c .0)) (c .1 .0) (c .1 .1) (subst (Never (completes s (c .0))) (c .1 .2) none)
 
   pub all-outside : (s : ℕ) → status s (reverse h) ≡ outside
@@ -327,10 +327,10 @@ Of-status (under op) o = o ≡ Some op
 Of-status (decided op a) o = o ≡ Some op
 
 current-step : (s : ℕ) (st : Status) (f : Event) (tr : List Event) → Of-status st (moved (current nowhere-yet (reverse tr)) f s)
-  → Of-status st (current nowhere-yet (reverse (f ∷ tr)) s)
+    → Of-status st (current nowhere-yet (reverse (f ∷ tr)) s)
 current-step s st f tr w =
     subst (λ x. Of-status st (current nowhere-yet x s)) (sym (reverse-cons f tr))
-      (subst (λ (g : ℕ → Option Op). Of-status st (g s)) (sym (current-snoc nowhere-yet (reverse tr) f)) w)
+    (subst (λ (g : ℕ → Option Op). Of-status st (g s)) (sym (current-snoc nowhere-yet (reverse tr) f)) w)
 
 current-is : (tr : List Event) → Orderly tr → (s : ℕ) → Of-status (status s tr) (current nowhere-yet (reverse tr) s)
 unfolding status Orderly
@@ -338,47 +338,47 @@ current-is [] o s = tt
 current-is (begins t op ∷ tr) o s = go (cases-eq s t) (current-is tr (o .1) s)
   where
     go : (s ≡ t) ⊎ (s ≡ t → ⊥) → Of-status (status s tr) (current nowhere-yet (reverse tr) s)
-      → Of-status (status s (begins t op ∷ tr)) (current nowhere-yet (reverse (begins t op ∷ tr)) s)
+        → Of-status (status s (begins t op ∷ tr)) (current nowhere-yet (reverse (begins t op ∷ tr)) s)
     go (inl e) w =
         subst (λ x. Of-status (status s (begins x op ∷ tr)) (current nowhere-yet (reverse (begins x op ∷ tr)) s)) e
-          (subst (λ x. Of-status x (current nowhere-yet (reverse (begins s op ∷ tr)) s)) (sym (status-begun s op tr))
-            (current-step s (under op) (begins s op) tr (put-here (current nowhere-yet (reverse tr)) s (Some op))))
+        (subst (λ x. Of-status x (current nowhere-yet (reverse (begins s op ∷ tr)) s)) (sym (status-begun s op tr))
+        (current-step s (under op) (begins s op) tr (put-here (current nowhere-yet (reverse tr)) s (Some op))))
     go (inr ne) w =
         subst (λ x. Of-status x (current nowhere-yet (reverse (begins t op ∷ tr)) s)) (sym (status-begins t s op tr ne))
-          (current-step s (status s tr) (begins t op) tr
-            (subst (Of-status (status s tr)) (sym (put-apart (current nowhere-yet (reverse tr)) t (Some op) s ne)) w))
+        (current-step s (status s tr) (begins t op) tr
+        (subst (Of-status (status s tr)) (sym (put-apart (current nowhere-yet (reverse tr)) t (Some op) s ne)) w))
 current-is (touches t c ∷ tr) o s = current-step s (status s tr) (touches t c) tr (current-is tr (o .1) s)
 current-is (clears t c ∷ tr) o s = current-step s (status s tr) (clears t c) tr (current-is tr o s)
 current-is (gives c ∷ tr) o s = current-step s (status s tr) (gives c) tr (current-is tr o s)
 current-is (decides t a ∷ tr) o s = go (cases-eq s t) (current-is tr (o .1) s)
   where
     go : (s ≡ t) ⊎ (s ≡ t → ⊥) → Of-status (status s tr) (current nowhere-yet (reverse tr) s)
-      → Of-status (status s (decides t a ∷ tr)) (current nowhere-yet (reverse (decides t a ∷ tr)) s)
+        → Of-status (status s (decides t a ∷ tr)) (current nowhere-yet (reverse (decides t a ∷ tr)) s)
     go (inl e) w =
         let u : status s tr ≡ under (o .0 .0) = ap (λ x. status x tr) e ∙ o .0 .1 in
         let v : Of-status (under (o .0 .0)) (current nowhere-yet (reverse tr) s) = subst (λ x. Of-status x (current nowhere-yet (reverse tr) s)) u w in
         subst (λ x. Of-status (status s (decides x a ∷ tr)) (current nowhere-yet (reverse (decides x a ∷ tr)) s)) e
-          (subst (λ x. Of-status x (current nowhere-yet (reverse (decides s a ∷ tr)) s)) (sym (status-decided s (o .0 .0) a tr u))
-            (current-step s (decided (o .0 .0) a) (decides s a) tr v))
+        (subst (λ x. Of-status x (current nowhere-yet (reverse (decides s a ∷ tr)) s)) (sym (status-decided s (o .0 .0) a tr u))
+        (current-step s (decided (o .0 .0) a) (decides s a) tr v))
     go (inr ne) w =
         subst (λ x. Of-status x (current nowhere-yet (reverse (decides t a ∷ tr)) s)) (sym (status-decides t s a tr ne))
-          (current-step s (status s tr) (decides t a) tr w)
+        (current-step s (status s tr) (decides t a) tr w)
 current-is (completes t a ∷ tr) o s = go (cases-eq s t) (current-is tr (o .1) s)
   where
     go : (s ≡ t) ⊎ (s ≡ t → ⊥) → Of-status (status s tr) (current nowhere-yet (reverse tr) s)
-      → Of-status (status s (completes t a ∷ tr)) (current nowhere-yet (reverse (completes t a ∷ tr)) s)
+        → Of-status (status s (completes t a ∷ tr)) (current nowhere-yet (reverse (completes t a ∷ tr)) s)
     go (inl e) w =
         subst (λ x. Of-status (status s (completes x a ∷ tr)) (current nowhere-yet (reverse (completes x a ∷ tr)) s)) e
-          (subst (λ x. Of-status x (current nowhere-yet (reverse (completes s a ∷ tr)) s)) (sym (status-completed s a tr)) tt)
+        (subst (λ x. Of-status x (current nowhere-yet (reverse (completes s a ∷ tr)) s)) (sym (status-completed s a tr)) tt)
     go (inr ne) w =
         subst (λ x. Of-status x (current nowhere-yet (reverse (completes t a ∷ tr)) s)) (sym (status-completes t s a tr ne))
-          (current-step s (status s tr) (completes t a) tr w)
+        (current-step s (status s tr) (completes t a) tr w)
 
 decisions-step : (f : Event) (tr : List Event) → decisions nowhere-yet (reverse (f ∷ tr)) ≡ decisions nowhere-yet (reverse tr) ++ newly (current nowhere-yet (reverse tr)) f
 decisions-step f tr = ap (decisions nowhere-yet) (reverse-cons f tr) ∙ decisions-snoc nowhere-yet (reverse tr) f
 
 decisions-same : (f : Event) (tr : List Event) → newly (current nowhere-yet (reverse tr)) f ≡ [] → decisions nowhere-yet (reverse tr) ≡ reverse (deeds tr)
-  → decisions nowhere-yet (reverse (f ∷ tr)) ≡ reverse (deeds tr)
+    → decisions nowhere-yet (reverse (f ∷ tr)) ≡ reverse (deeds tr)
 decisions-same f tr n e = decisions-step f tr ∙ (ap (λ x. decisions nowhere-yet (reverse tr) ++ x) n ∙ (append-nil (decisions nowhere-yet (reverse tr)) ∙ e))
 
 decisions-are : (tr : List Event) → Orderly tr → decisions nowhere-yet (reverse tr) ≡ reverse (deeds tr)
@@ -394,8 +394,8 @@ decisions-are (decides s a ∷ tr) o =
     let c : current nowhere-yet (reverse tr) s ≡ Some op = subst (λ x. Of-status x (current nowhere-yet (reverse tr) s)) (o .0 .1) (current-is tr (o .1) s) in
     decisions-step (decides s a) tr
     ∙ (ap (λ x. decisions nowhere-yet (reverse tr) ++ decided-by x a []) c
-      ∙ (ap (λ (x : List (Op × Answer)). x ++ (op, a) ∷ []) (decisions-are tr (o .1))
-        ∙ (sym (reverse-cons (op, a) (deeds tr)) ∙ ap (λ x. reverse (deed x a (deeds tr))) (sym (o .0 .1)))))
+    ∙ (ap (λ (x : List (Op × Answer)). x ++ (op, a) ∷ []) (decisions-are tr (o .1))
+    ∙ (sym (reverse-cons (op, a) (deeds tr)) ∙ ap (λ x. reverse (deed x a (deeds tr))) (sym (o .0 .1)))))
 
 -- the serial machine, fed oldest first
 module _ {V : Type 0} (cmp : V → V → Ordering) (val : ℕ → V) where
@@ -434,9 +434,9 @@ module _ {V : Type 0} (cmp : V → V → Ordering) (val : ℕ → V) where
   answers-are (d ∷ ds) t =
       ap (serial-answers cmp val empty) (ops-snoc d ds)
       ∙ (answers-append empty (ops (reverse ds)) (d .0 ∷ [])
-        ∙ (ap (λ z. serial-answers cmp val empty (ops (reverse ds)) ++ serve cmp val (d .0) z .1 ∷ []) (after-is ds)
-          ∙ (ap (λ a. serial-answers cmp val empty (ops (reverse ds)) ++ a ∷ []) (sym (t .0))
-            ∙ (ap (λ (l : List Answer). l ++ d .1 ∷ []) (answers-are ds (t .1)) ∙ sym (answers-snoc d ds)))))
+      ∙ (ap (λ z. serial-answers cmp val empty (ops (reverse ds)) ++ serve cmp val (d .0) z .1 ∷ []) (after-is ds)
+      ∙ (ap (λ a. serial-answers cmp val empty (ops (reverse ds)) ++ a ∷ []) (sym (t .0))
+      ∙ (ap (λ (l : List Answer). l ++ d .1 ∷ []) (answers-are ds (t .1)) ∙ sym (answers-snoc d ds)))))
 
   decided-list : (h : History) → Orderly (reverse h) → decisions nowhere-yet h ≡ reverse (deeds (reverse h))
   decided-list h o = ap (decisions nowhere-yet) (sym (reverse-reverse h)) ∙ decisions-are (reverse h) o

@@ -55,30 +55,30 @@ module _ {State : Type 0} {M : Model State} {sessions cells : ℕ} (L : Rules M 
 
   -- chain under a change of places and links off the stack
   chain-move : (A : Scene State) (a : Sound L O val A) (f : ℕ) (v : Place) (k : ℕ → Option ℕ) → (kind (A .place f) ≡ 3 → ⊥)
-    → ((d : ℕ) → (kind (A .place d) ≡ 5 → ⊥) → k d ≡ A .memory .link d)
-    → Chain (put (A .place) f v) k (A .memory .head) (A .chain)
+      → ((d : ℕ) → (kind (A .place d) ≡ 5 → ⊥) → k d ≡ A .memory .link d)
+      → Chain (put (A .place) f v) k (A .memory .head) (A .chain)
   chain-move A a f v k ne keep =
       chain-frame (A .place) (put (A .place) f v) (A .memory .link) k (A .memory .head) (A .chain)
-        (λ c n q h. put-kind (A .place) f v c q ne)
-        (λ c n q h. keep c (λ z. let w = ap kind q in omega arith))
-        (a .chain)
+      (λ c n q h. put-kind (A .place) f v c q ne)
+      (λ c n q h. keep c (λ z. let w = ap kind q in omega arith))
+      (a .chain)
 
   -- insert f behind prev
   abbrev pub insertScene : Scene State → ℕ → ℕ → (ℕ → Option ℕ) → Option ℕ → List ℕ → List ℕ → Scene State
   insertScene A s f k h pre post =
-      record
-        { memory = relink (A .memory) k h
-        ; place = put (A .place) f inList
-        ; chain = A .chain
-        ; line = pre ++ f ∷ post
-        ; seen = decides s (yes 0) ∷ A .seen
-        }
+      record {
+        memory = relink (A .memory) k h;
+        place = put (A .place) f inList;
+        chain = A .chain;
+        line = pre ++ f ∷ post;
+        seen = decides s (yes 0) ∷ A .seen;
+      }
 
   module _ (A : Scene State) (s f : ℕ) (j : Option ℕ → ℕ → Option ℕ) (g : Option ℕ → Option ℕ)
-    (cut : CutOf A (A .memory .link f) j g (key L O val A f)) (keep : Keeps A j) (from : From A j)
-    (e : A .place f ≡ freshOf s) (mk : A .memory .mark f ≡ false)
-    (above : Above O (key L O val A) (key L O val A f) (cut .post))
-    (st : status s (A .seen) ≡ under (Insert (A .memory .item f))) (a : Sound L O val A) where
+      (cut : CutOf A (A .memory .link f) j g (key L O val A f)) (keep : Keeps A j) (from : From A j)
+      (e : A .place f ≡ freshOf s) (mk : A .memory .mark f ≡ false)
+      (above : Above O (key L O val A) (key L O val A f) (cut .post))
+      (st : status s (A .seen) ≡ under (Insert (A .memory .item f))) (a : Sound L O val A) where
     abbrev new : Scene State
     new = insertScene A s f (j (Some f)) (g (Some f)) (cut .pre) (cut .post)
 
@@ -95,7 +95,7 @@ module _ {State : Type 0} {M : Model State} {sessions cells : ℕ} (L : Rules M 
     absent =
         ap (member (O .cmp) (key L O val A f)) (sym (a .set))
         ∙ Lists.member-none O (key L O val A) (A .memory .mark) (key L O val A f) (A .line)
-            (λ x i q. go x q (Lists.in-append x (cut .pre) (cut .post) (subst (In x) (cut .whole) i)))
+        (λ x i q. go x q (Lists.in-append x (cut .pre) (cut .post) (subst (In x) (cut .whole) i)))
       where
         go : (x : ℕ) → key L O val A x ≡ key L O val A f → In x (cut .pre) ⊎ In x (cut .post) → ⊥
         go x q (inl i) = Lists.less-irrefl O (key L O val A x) (key L O val A f) q (cut .low x i)
@@ -105,54 +105,54 @@ module _ {State : Type 0} {M : Model State} {sessions cells : ℕ} (L : Rules M 
     ins-deeds = deeds-decides s (Insert (A .memory .item f)) (yes 0) (A .seen) st
 
     ins-served : serve (O .cmp) val (Insert (A .memory .item f)) (played (O .cmp) val (deeds (A .seen)))
-      ≡ (pushed (added (O .cmp) (key L O val A f) (played (O .cmp) val (deeds (A .seen)) .set)) (played (O .cmp) val (deeds (A .seen)) .stack), yes 0)
+        ≡ (pushed (added (O .cmp) (key L O val A f) (played (O .cmp) val (deeds (A .seen)) .set)) (played (O .cmp) val (deeds (A .seen)) .stack), yes 0)
     ins-served = ap (inserted (O .cmp) val (played (O .cmp) val (deeds (A .seen))) (key L O val A f)) absent
 
     ins-played : played (O .cmp) val (deeds (decides s (yes 0) ∷ A .seen))
-      ≡ pushed (added (O .cmp) (key L O val A f) (played (O .cmp) val (deeds (A .seen)) .set)) (played (O .cmp) val (deeds (A .seen)) .stack)
+        ≡ pushed (added (O .cmp) (key L O val A f) (played (O .cmp) val (deeds (A .seen)) .set)) (played (O .cmp) val (deeds (A .seen)) .stack)
     unfolding played
     ins-played = ap (played (O .cmp) val) ins-deeds ∙ ap (λ x. x .0) ins-served
 
     pub insert-sound : Sound L O val new
     unfolding Seg Orderly Truthful
     insert-sound =
-        record
-          { fit = a .fit
-          ; free = free-put L O val A a f inList (not 1 (λ z. omega arith))
-          ; freeBack = λ c k q. a .freeBack c k (put-kind-back (A .place) f inList c q (λ z. omega arith))
-          ; heldOn = λ c h. put-kind (A .place) f inList c (a .heldOn c h) (not 2 (λ z. omega arith))
-          ; heldBack = λ c h. a .heldBack c (put-kind-back (A .place) f inList c h (λ z. omega arith))
-          ; chain = chain-move A a f inList (j (Some f)) (not 3 (λ z. omega arith)) (λ d ne. keep (Some f) d (inl ne))
-          ; line =
+        record {
+          fit = a .fit;
+          free = free-put L O val A a f inList (not 1 (λ z. omega arith));
+          freeBack = λ c k q. a .freeBack c k (put-kind-back (A .place) f inList c q (λ z. omega arith));
+          heldOn = λ c h. put-kind (A .place) f inList c (a .heldOn c h) (not 2 (λ z. omega arith));
+          heldBack = λ c h. a .heldBack c (put-kind-back (A .place) f inList c h (λ z. omega arith));
+          chain = chain-move A a f inList (j (Some f)) (not 3 (λ z. omega arith)) (λ d ne. keep (Some f) d (inl ne));
+          line =
               Lists.seg-join (put (A .place) f inList) (j (Some f)) (g (Some f)) (cut .pre) (Some f) (f ∷ cut .post) None
-                (Lists.seg-frame (A .place) (put (A .place) f inList) (j (Some f)) (j (Some f)) (g (Some f)) (cut .pre) (Some f)
-                  (λ c i q. put-kind (A .place) f inList c q (not 5 (λ z. omega arith))) (λ c i q. refl) (cut .turned (Some f)))
-                ( refl
-                , put-here (A .place) f inList
-                , rw (keep (Some f) f (inl (not 5 (λ z. omega arith))))
+              (Lists.seg-frame (A .place) (put (A .place) f inList) (j (Some f)) (j (Some f)) (g (Some f)) (cut .pre) (Some f)
+              (λ c i q. put-kind (A .place) f inList c q (not 5 (λ z. omega arith))) (λ c i q. refl) (cut .turned (Some f))) (
+                refl,
+                put-here (A .place) f inList,
+                rw (keep (Some f) f (inl (not 5 (λ z. omega arith))))
                     (Lists.seg-frame (A .place) (put (A .place) f inList) (A .memory .link) (j (Some f)) (A .memory .link f) (cut .post) None
-                      (λ c i q. put-kind (A .place) f inList c q (not 5 (λ z. omega arith))) (λ c i q. cut .kept (Some f) c i) (cut .after))
-                )
-          ; lineBack = λ d q. back d q (cases-eq d f)
-          ; linked = λ d n q. into d n q (from (Some f) d n q)
-          ; sorted = Lists.sorted-mid O (key L O val A) f (cut .pre) (cut .post) sorted₀ (cut .low) above
-          ; stack = a .stack ∙ sym (ap (λ z. z .stack) ins-played)
-          ; set =
+                    (λ c i q. put-kind (A .place) f inList c q (not 5 (λ z. omega arith))) (λ c i q. cut .kept (Some f) c i) (cut .after)),
+              );
+          lineBack = λ d q. back d q (cases-eq d f);
+          linked = λ d n q. into d n q (from (Some f) d n q);
+          sorted = Lists.sorted-mid O (key L O val A) f (cut .pre) (cut .post) sorted₀ (cut .low) above;
+          stack = a .stack ∙ sym (ap (λ z. z .stack) ins-played);
+          set =
               Lists.live-mid O (key L O val A) (A .memory .mark) f (cut .pre) (cut .post) mk (cut .low) above
               ∙ (ap (λ l. added (O .cmp) (key L O val A f) (live (A .memory .mark) (key L O val A) l)) (sym (cut .whole))
-                ∙ (ap (added (O .cmp) (key L O val A f)) (a .set) ∙ sym (ap (λ z. z .set) ins-played)))
-          ; bound = bound-put cells (A .place) f inList new-in (a .bound)
-          ; within = within-put cells (A .place) f inList (λ z. let k = ap kind z in omega arith) (a .within)
-          ; count =
+              ∙ (ap (added (O .cmp) (key L O val A f)) (a .set) ∙ sym (ap (λ z. z .set) ins-played)));
+          bound = bound-put cells (A .place) f inList new-in (a .bound);
+          within = within-put cells (A .place) f inList (λ z. let k = ap kind z in omega arith) (a .within);
+          count =
               let t = total-put (A .place) f inList cells new-in in
               let u : isLink (A .place f) ≡ 0 = ap isLink e in
               let c = a .count in
               let l = Lists.length-mid f (cut .pre) (cut .post) in
               let w : length (A .line) ≡ length (cut .pre ++ cut .post) = ap length (cut .whole) in
-              omega arith
-          ; orderly = ((Insert (A .memory .item f), st), a .orderly)
-          ; truthful = subst (Truthful (O .cmp) val) (sym ins-deeds) (sym (ap (λ x. x .1) ins-served), a .truthful)
-          }
+              omega arith;
+          orderly = ((Insert (A .memory .item f), st), a .orderly);
+          truthful = subst (Truthful (O .cmp) val) (sym ins-deeds) (sym (ap (λ x. x .1) ins-served), a .truthful);
+        }
       where
         into : (d n : ℕ) → j (Some f) d ≡ Some n → (A .memory .link d ≡ Some n) ⊎ (Some f ≡ Some n) → n < cells
         into d n q (inl z) = a .linked d n z
@@ -162,26 +162,26 @@ module _ {State : Type 0} {M : Model State} {sessions cells : ℕ} (L : Rules M 
         back d q (inl z) = Lists.in-right d (cut .pre) (f ∷ cut .post) (inl z)
         back d q (inr ne) =
             Lists.in-mid d f (cut .pre) (cut .post)
-              (subst (In d) (cut .whole) (a .lineBack d (sym (put-apart (A .place) f inList d ne) ∙ q)))
+            (subst (In d) (cut .whole) (a .lineBack d (sym (put-apart (A .place) f inList d ne) ∙ q)))
 
     pub insert-calm : (t : ℕ) → (t ≡ s → ⊥) → Calm L t A new
     unfolding Cleared
     insert-calm t ne =
         turn-calm L t A new f
-          (record
-            { inOn = λ h. h
-            ; inBack = λ h. h
-            ; status = status-decides s t (yes 0) (A .seen) ne
-            ; elsewhere = λ d n. put-apart (A .place) f inList d n
-            ; mine = λ h. let k : freshOf s ≡ freshOf t = sym e ∙ h in let k′ : t ≡ s = cc in ne k′
-            ; made = λ h. let k = ap kind (sym (put-here (A .place) f inList) ∙ h) in omega arith
-            ; still = λ d n z. (keep (Some f) d (inl z), refl, refl)
-            ; listed = λ d n z. (refl, λ m. (m, keep (Some f) d (inr m)))
-            ; names = λ i d h. h
-            ; keeps = λ i d n h. h
-            ; here = λ i h. absurd (never (safe-kind L A t i f h))
-            ; cleared = λ i d h k. k
-            })
+        (record {
+          inOn = λ h. h;
+          inBack = λ h. h;
+          status = status-decides s t (yes 0) (A .seen) ne;
+          elsewhere = λ d n. put-apart (A .place) f inList d n;
+          mine = λ h. let k : freshOf s ≡ freshOf t = sym e ∙ h in let k′ : t ≡ s = cc in ne k′;
+          made = λ h. let k = ap kind (sym (put-here (A .place) f inList) ∙ h) in omega arith;
+          still = λ d n z. (keep (Some f) d (inl z), refl, refl);
+          listed = λ d n z. (refl, λ m. (m, keep (Some f) d (inr m)));
+          names = λ i d h. h;
+          keeps = λ i d n h. h;
+          here = λ i h. absurd (never (safe-kind L A t i f h));
+          cleared = λ i d h k. k;
+        })
       where
         never : (kind (A .place f) ≡ 3) ⊎ ((kind (A .place f) ≡ 5) ⊎ (kind (A .place f) ≡ 2)) → ⊥
         never h = let k = ap kind e in omega arith
@@ -189,16 +189,16 @@ module _ {State : Type 0} {M : Model State} {sessions cells : ℕ} (L : Rules M 
   -- mark c, and the delete is decided
   abbrev pub markScene : Scene State → ℕ → ℕ → Scene State
   markScene A s c =
-      record
-        { memory = marked M (A .memory) c
-        ; place = A .place
-        ; chain = A .chain
-        ; line = A .line
-        ; seen = decides s (yes 0) ∷ A .seen
-        }
+      record {
+        memory = marked M (A .memory) c;
+        place = A .place;
+        chain = A .chain;
+        line = A .line;
+        seen = decides s (yes 0) ∷ A .seen;
+      }
 
   module _ (A : Scene State) (s c p : ℕ) (e : A .place c ≡ inList) (mk : A .memory .mark c ≡ false) (eq : key L O val A c ≡ val p)
-    (st : status s (A .seen) ≡ under (Delete p)) (a : Sound L O val A) where
+      (st : status s (A .seen) ≡ under (Delete p)) (a : Sound L O val A) where
     mark-deeds : deeds (decides s (yes 0) ∷ A .seen) ≡ (Delete p, yes 0) ∷ deeds (A .seen)
     mark-deeds = deeds-decides s (Delete p) (yes 0) (A .seen) st
 
@@ -206,52 +206,52 @@ module _ {State : Type 0} {M : Model State} {sessions cells : ℕ} (L : Rules M 
     there =
         ap (member (O .cmp) (val p)) (sym (a .set))
         ∙ (ap (λ k. member (O .cmp) k (live (A .memory .mark) (key L O val A) (A .line))) (sym eq)
-          ∙ Lists.member-there O (key L O val A) (A .memory .mark) c (A .line) (a .sorted) (a .lineBack c e) mk)
+        ∙ Lists.member-there O (key L O val A) (A .memory .mark) c (A .line) (a .sorted) (a .lineBack c e) mk)
 
     mark-served : serve (O .cmp) val (Delete p) (played (O .cmp) val (deeds (A .seen)))
-      ≡ (pushed (removed (O .cmp) (val p) (played (O .cmp) val (deeds (A .seen)) .set)) (played (O .cmp) val (deeds (A .seen)) .stack), yes 0)
+        ≡ (pushed (removed (O .cmp) (val p) (played (O .cmp) val (deeds (A .seen)) .set)) (played (O .cmp) val (deeds (A .seen)) .stack), yes 0)
     mark-served = ap (deleted (O .cmp) val (played (O .cmp) val (deeds (A .seen))) (val p)) there
 
     mark-played : played (O .cmp) val (deeds (decides s (yes 0) ∷ A .seen))
-      ≡ pushed (removed (O .cmp) (val p) (played (O .cmp) val (deeds (A .seen)) .set)) (played (O .cmp) val (deeds (A .seen)) .stack)
+        ≡ pushed (removed (O .cmp) (val p) (played (O .cmp) val (deeds (A .seen)) .set)) (played (O .cmp) val (deeds (A .seen)) .stack)
     unfolding played
     mark-played = ap (played (O .cmp) val) mark-deeds ∙ ap (λ x. x .0) mark-served
 
     pub mark-sound : Sound L O val (markScene A s c)
     unfolding Orderly Truthful
     mark-sound =
-        record
-          { fit = a .fit
-          ; free = a .free
-          ; freeBack = a .freeBack
-          ; heldOn = a .heldOn
-          ; heldBack = a .heldBack
-          ; chain = a .chain
-          ; line = a .line
-          ; lineBack = a .lineBack
-          ; linked = a .linked
-          ; sorted = a .sorted
-          ; stack = a .stack ∙ sym (ap (λ z. z .stack) mark-played)
-          ; set =
+        record {
+          fit = a .fit;
+          free = a .free;
+          freeBack = a .freeBack;
+          heldOn = a .heldOn;
+          heldBack = a .heldBack;
+          chain = a .chain;
+          line = a .line;
+          lineBack = a .lineBack;
+          linked = a .linked;
+          sorted = a .sorted;
+          stack = a .stack ∙ sym (ap (λ z. z .stack) mark-played);
+          set =
               Lists.live-marked O (key L O val A) (A .memory .mark) c (A .line) (a .sorted) (a .lineBack c e) mk
               ∙ (ap (λ k. removed (O .cmp) k (live (A .memory .mark) (key L O val A) (A .line))) eq
-                ∙ (ap (removed (O .cmp) (val p)) (a .set) ∙ sym (ap (λ z. z .set) mark-played)))
-          ; bound = a .bound
-          ; within = a .within
-          ; count = a .count
-          ; orderly = ((Delete p, st), a .orderly)
-          ; truthful = subst (Truthful (O .cmp) val) (sym mark-deeds) (sym (ap (λ x. x .1) mark-served), a .truthful)
-          }
+              ∙ (ap (removed (O .cmp) (val p)) (a .set) ∙ sym (ap (λ z. z .set) mark-played)));
+          bound = a .bound;
+          within = a .within;
+          count = a .count;
+          orderly = ((Delete p, st), a .orderly);
+          truthful = subst (Truthful (O .cmp) val) (sym mark-deeds) (sym (ap (λ x. x .1) mark-served), a .truthful);
+        }
 
     -- to s too, but for its status
     pub mark-stays : (t i : ℕ) → Safe L A t i c → Moves.Stays L t i A (markScene A s c) c
-    mark-stays t i h =
-        ( safe-on L A (markScene A s c) t i c (λ n. n) (λ k. k) refl h
-        , refl
-        , λ o. (o, refl)
-        , list
-        , λ o m. (put-here (A .memory .mark) c true, refl)
-        )
+    mark-stays t i h = (
+      safe-on L A (markScene A s c) t i c (λ n. n) (λ k. k) refl h,
+      refl,
+      λ o. (o, refl),
+      list,
+      λ o m. (put-here (A .memory .mark) c true, refl),
+    )
       where
         list : OnList A c → OnList (markScene A s c) c
         list (inl q) = inl q
@@ -261,34 +261,34 @@ module _ {State : Type 0} {M : Model State} {sessions cells : ℕ} (L : Rules M 
     unfolding Cleared
     mark-calm t ne =
         turn-calm L t A (markScene A s c) c
-          (record
-            { inOn = λ h. h
-            ; inBack = λ h. h
-            ; status = status-decides s t (yes 0) (A .seen) ne
-            ; elsewhere = λ d n. refl
-            ; mine = λ h. let k = ap kind (sym e ∙ h) in omega arith
-            ; made = λ h. let k = ap kind (sym e ∙ h) in omega arith
-            ; still = λ d n z. (refl, refl, put-apart (A .memory .mark) c true d n)
-            ; listed = λ d n z. (refl, λ m. (put-apart (A .memory .mark) c true d n ∙ m, refl))
-            ; names = λ i d h. h
-            ; keeps = λ i d n h. h
-            ; here = λ i h. mark-stays t i h
-            ; cleared = λ i d h k. k
-            })
+        (record {
+          inOn = λ h. h;
+          inBack = λ h. h;
+          status = status-decides s t (yes 0) (A .seen) ne;
+          elsewhere = λ d n. refl;
+          mine = λ h. let k = ap kind (sym e ∙ h) in omega arith;
+          made = λ h. let k = ap kind (sym e ∙ h) in omega arith;
+          still = λ d n z. (refl, refl, put-apart (A .memory .mark) c true d n);
+          listed = λ d n z. (refl, λ m. (put-apart (A .memory .mark) c true d n ∙ m, refl));
+          names = λ i d h. h;
+          keeps = λ i d n h. h;
+          here = λ i h. mark-stays t i h;
+          cleared = λ i d h k. k;
+        })
 
   -- unlink the marked cell c behind prev
   abbrev pub dropScene : Scene State → ℕ → (ℕ → Option ℕ) → Option ℕ → List ℕ → List ℕ → Scene State
   dropScene A c k h pre rest =
-      record
-        { memory = with-reclaimer M (relink (A .memory) k h) (after-retire M (A .memory .reclaimer) c)
-        ; place = put (A .place) c heldNow
-        ; chain = A .chain
-        ; line = pre ++ rest
-        ; seen = A .seen
-        }
+      record {
+        memory = with-reclaimer M (relink (A .memory) k h) (after-retire M (A .memory .reclaimer) c);
+        place = put (A .place) c heldNow;
+        chain = A .chain;
+        line = pre ++ rest;
+        seen = A .seen;
+      }
 
   module _ (A : Scene State) (c : ℕ) (j : Option ℕ → ℕ → Option ℕ) (g : Option ℕ → Option ℕ) (v : V)
-    (cut : CutOf A (Some c) j g v) (keep : Keeps A j) (from : From A j) (mk : A .memory .mark c ≡ true) (a : Sound L O val A) where
+      (cut : CutOf A (Some c) j g v) (keep : Keeps A j) (from : From A j) (mk : A .memory .mark c ≡ true) (a : Sound L O val A) where
     tail : (r : List ℕ) × (cut .post ≡ c ∷ r) × Seg (A .place) (A .memory .link) (A .memory .link c) r None
     tail = Lists.seg-some (A .place) (A .memory .link) c (cut .post) (cut .after)
 
@@ -314,13 +314,13 @@ module _ {State : Type 0} {M : Model State} {sessions cells : ℕ} (L : Rules M 
     away-pre : (x : ℕ) → In x (cut .pre) → x ≡ c → ⊥
     away-pre x i q =
         Lists.less-irrefl O (key L O val A x) (key L O val A c) (ap (key L O val A) q)
-          (Lists.sorted-cross O (key L O val A) (cut .pre) (c ∷ rest) sorted₁ x c i (inl refl))
+        (Lists.sorted-cross O (key L O val A) (cut .pre) (c ∷ rest) sorted₁ x c i (inl refl))
 
     away-rest : (x : ℕ) → In x rest → x ≡ c → ⊥
     unfolding Sorted
     away-rest x i q =
         Lists.less-irrefl O (key L O val A c) (key L O val A x) (ap (key L O val A) (sym q))
-          (Lists.sorted-right O (key L O val A) (cut .pre) (c ∷ rest) sorted₁ .0 x i)
+        (Lists.sorted-right O (key L O val A) (cut .pre) (c ∷ rest) sorted₁ .0 x i)
 
     pub drop-end : A .memory .link c ≡ None → rest ≡ []
     unfolding rest
@@ -346,41 +346,41 @@ module _ {State : Type 0} {M : Model State} {sessions cells : ℕ} (L : Rules M 
     unfolding rest
     drop-sound =
         let n = A .memory .link c in
-        record
-          { fit = L .fits-retires (A .memory .reclaimer) c (a .fit)
-          ; free = free-put L O val A a c heldNow (was-not 1 (λ z. omega arith))
-          ; freeBack = λ d k q. a .freeBack d k (put-kind-back (A .place) c heldNow d q (λ z. omega arith))
-          ; heldOn = λ d h. on d h (cases-eq d c)
-          ; heldBack = λ d h. back d h (cases-eq d c)
-          ; chain = chain-move A a c heldNow (j n) (was-not 3 (λ z. omega arith)) (λ d ne. keep n d (inl ne))
-          ; line =
+        record {
+          fit = L .fits-retires (A .memory .reclaimer) c (a .fit);
+          free = free-put L O val A a c heldNow (was-not 1 (λ z. omega arith));
+          freeBack = λ d k q. a .freeBack d k (put-kind-back (A .place) c heldNow d q (λ z. omega arith));
+          heldOn = λ d h. on d h (cases-eq d c);
+          heldBack = λ d h. back d h (cases-eq d c);
+          chain = chain-move A a c heldNow (j n) (was-not 3 (λ z. omega arith)) (λ d ne. keep n d (inl ne));
+          line =
               Lists.seg-join (put (A .place) c heldNow) (j n) (g n) (cut .pre) n rest None
-                (Lists.seg-frame (A .place) (put (A .place) c heldNow) (j n) (j n) (g n) (cut .pre) n
-                  (λ d i q. put-apart (A .place) c heldNow d (away-pre d i) ∙ q) (λ d i q. refl) (cut .turned n))
-                (Lists.seg-frame (A .place) (put (A .place) c heldNow) (A .memory .link) (j n) n rest None
-                  (λ d i q. put-apart (A .place) c heldNow d (away-rest d i) ∙ q)
-                  (λ d i q. cut .kept n d (subst (In d) (sym (tail .1)) (inr i)))
-                  (tail .2))
-          ; lineBack =
-              λ d q. left d q (Lists.in-unmid d c (cut .pre) rest (subst (In d) whole (a .lineBack d (put-kind-back (A .place) c heldNow d q (λ z. omega arith)))))
-          ; linked = λ d k q. into d k q (from n d k q)
-          ; sorted = Lists.sorted-drop O (key L O val A) c (cut .pre) rest sorted₁
-          ; stack = a .stack
-          ; set =
+              (Lists.seg-frame (A .place) (put (A .place) c heldNow) (j n) (j n) (g n) (cut .pre) n
+              (λ d i q. put-apart (A .place) c heldNow d (away-pre d i) ∙ q) (λ d i q. refl) (cut .turned n))
+              (Lists.seg-frame (A .place) (put (A .place) c heldNow) (A .memory .link) (j n) n rest None
+              (λ d i q. put-apart (A .place) c heldNow d (away-rest d i) ∙ q)
+              (λ d i q. cut .kept n d (subst (In d) (sym (tail .1)) (inr i)))
+              (tail .2));
+          lineBack =
+              λ d q. left d q (Lists.in-unmid d c (cut .pre) rest (subst (In d) whole (a .lineBack d (put-kind-back (A .place) c heldNow d q (λ z. omega arith)))));
+          linked = λ d k q. into d k q (from n d k q);
+          sorted = Lists.sorted-drop O (key L O val A) c (cut .pre) rest sorted₁;
+          stack = a .stack;
+          set =
               sym (Lists.live-drop O (key L O val A) (A .memory .mark) c (cut .pre) rest mk)
-              ∙ (ap (live (A .memory .mark) (key L O val A)) (sym whole) ∙ a .set)
-          ; bound = bound-put cells (A .place) c heldNow drop-in (a .bound)
-          ; within = within-put cells (A .place) c heldNow (λ z. let k = ap kind z in omega arith) (a .within)
-          ; count =
+              ∙ (ap (live (A .memory .mark) (key L O val A)) (sym whole) ∙ a .set);
+          bound = bound-put cells (A .place) c heldNow drop-in (a .bound);
+          within = within-put cells (A .place) c heldNow (λ z. let k = ap kind z in omega arith) (a .within);
+          count =
               let t = total-put (A .place) c heldNow cells drop-in in
               let u : isLink (A .place c) ≡ 1 = ap isLink drop-place in
               let k = a .count in
               let l = Lists.length-mid c (cut .pre) rest in
               let w : length (A .line) ≡ length (cut .pre ++ c ∷ rest) = ap length whole in
-              omega arith
-          ; orderly = a .orderly
-          ; truthful = a .truthful
-          }
+              omega arith;
+          orderly = a .orderly;
+          truthful = a .truthful;
+        }
       where
         into : (d k : ℕ) → j (A .memory .link c) d ≡ Some k → (A .memory .link d ≡ Some k) ⊎ (A .memory .link c ≡ Some k) → k < cells
         into d k q (inl z) = a .linked d k z
@@ -405,30 +405,30 @@ module _ {State : Type 0} {M : Model State} {sessions cells : ℕ} (L : Rules M 
     drop-calm t =
         let n = A .memory .link c in
         turn-calm L t A gone c
-          (record
-            { inOn = law₁ .inside .on t
-            ; inBack = law₁ .inside .back t
-            ; status = refl
-            ; elsewhere = λ d ne. put-apart (A .place) c heldNow d ne
-            ; mine = λ h. let k = ap kind (sym drop-place ∙ h) in omega arith
-            ; made = λ h. let k = ap kind (sym (put-here (A .place) c heldNow) ∙ h) in omega arith
-            ; still = λ d ne z. (keep n d (inl z), refl, refl)
-            ; listed = λ d ne z. (refl, λ m. (m, keep n d (inr m)))
-            ; names = law₁ .slots .names t
-            ; keeps = λ i d ne h. law₁ .slots .keeps t i d h
-            ; here =
-                λ i h.
-                  ( record
-                      { named = law₁ .slots .names t i c (h .named)
-                      ; there = inr (inr (put-here (A .place) c heldNow, law₁ .kept t i (h .named)))
-                      }
-                  , refl
-                  , λ o. absurd (no-stack o)
-                  , λ o. inr (put-here (A .place) c heldNow, mk)
-                  , λ o m. (m, keep n c (inr mk))
-                  )
-            ; cleared = λ i d h k. k
-            })
+        (record {
+          inOn = law₁ .inside .on t;
+          inBack = law₁ .inside .back t;
+          status = refl;
+          elsewhere = λ d ne. put-apart (A .place) c heldNow d ne;
+          mine = λ h. let k = ap kind (sym drop-place ∙ h) in omega arith;
+          made = λ h. let k = ap kind (sym (put-here (A .place) c heldNow) ∙ h) in omega arith;
+          still = λ d ne z. (keep n d (inl z), refl, refl);
+          listed = λ d ne z. (refl, λ m. (m, keep n d (inr m)));
+          names = law₁ .slots .names t;
+          keeps = λ i d ne h. law₁ .slots .keeps t i d h;
+          here =
+              λ i h. (
+                record {
+                  named = law₁ .slots .names t i c (h .named);
+                  there = inr (inr (put-here (A .place) c heldNow, law₁ .kept t i (h .named)));
+                },
+                refl,
+                λ o. absurd (no-stack o),
+                λ o. inr (put-here (A .place) c heldNow, mk),
+                λ o m. (m, keep n c (inr mk)),
+              );
+          cleared = λ i d h k. k;
+        })
       where
         no-stack : OnStack A c → ⊥
         no-stack (inl p) = was-not 3 (λ z. omega arith) (ap kind (p .1))

@@ -68,19 +68,19 @@ length-mid f (y ∷ a) b = ap suc (length-mid f a b)
 
 -- segments
 pub seg-frame : (P Q : ℕ → Place) (k j : ℕ → Option ℕ) (h : Option ℕ) (l : List ℕ) (e : Option ℕ)
-  → ((c : ℕ) → In c l → P c ≡ inList → Q c ≡ inList)
-  → ((c : ℕ) → In c l → P c ≡ inList → j c ≡ k c)
-  → Seg P k h l e → Seg Q j h l e
+    → ((c : ℕ) → In c l → P c ≡ inList → Q c ≡ inList)
+    → ((c : ℕ) → In c l → P c ≡ inList → j c ≡ k c)
+    → Seg P k h l e → Seg Q j h l e
 unfolding Seg
 seg-frame P Q k j h [] e f g t = t
-seg-frame P Q k j h (c ∷ l) e f g t =
-    ( t .0
-    , f c (inl refl) (t .1)
-    , rw (g c (inl refl) (t .1)) (seg-frame P Q k j (k c) l e (λ d i. f d (inr i)) (λ d i. g d (inr i)) (t .2))
-    )
+seg-frame P Q k j h (c ∷ l) e f g t = (
+  t .0,
+  f c (inl refl) (t .1),
+  rw (g c (inl refl) (t .1)) (seg-frame P Q k j (k c) l e (λ d i. f d (inr i)) (λ d i. g d (inr i)) (t .2)),
+)
 
 pub seg-join : (P : ℕ → Place) (k : ℕ → Option ℕ) (h : Option ℕ) (a : List ℕ) (m : Option ℕ) (b : List ℕ) (e : Option ℕ)
-  → Seg P k h a m → Seg P k m b e → Seg P k h (a ++ b) e
+    → Seg P k h a m → Seg P k m b e → Seg P k h (a ++ b) e
 unfolding Seg
 seg-join P k h [] m b e p q = subst (λ x. Seg P k x b e) (sym p) q
 seg-join P k h (c ∷ a) m b e p q = (p .0, p .1, seg-join P k (k c) a m b e (p .2) q)
@@ -92,7 +92,7 @@ seg-in P k h (d ∷ l) e t c (inl q) = ap P q ∙ t .1
 seg-in P k h (d ∷ l) e t c (inr i) = seg-in P k (k d) l e (t .2) c i
 
 pub seg-some : (P : ℕ → Place) (k : ℕ → Option ℕ) (c : ℕ) (l : List ℕ) → Seg P k (Some c) l None
-  → (r : List ℕ) × (l ≡ c ∷ r) × Seg P k (k c) r None
+    → (r : List ℕ) × (l ≡ c ∷ r) × Seg P k (k c) r None
 unfolding Seg
 seg-some P k c [] t = let z : _≡_ {A = ℕ} 0 1 = cc in absurd (omega arith)
 seg-some P k c (d ∷ l) t =
@@ -126,13 +126,13 @@ module _ {V : Type 0} (O : Order V) where
   pub sorted-frame : (key kez : ℕ → V) (l : List ℕ) → ((c : ℕ) → In c l → kez c ≡ key c) → Sorted O key l → Sorted O kez l
   unfolding Sorted
   sorted-frame key kez [] f t = tt
-  sorted-frame key kez (c ∷ l) f t =
-      ( λ d i. rw (f c (inl refl), f d (inr i)) (t .0 d i)
-      , sorted-frame key kez l (λ d i. f d (inr i)) (t .1)
-      )
+  sorted-frame key kez (c ∷ l) f t = (
+    λ d i. rw (f c (inl refl), f d (inr i)) (t .0 d i),
+    sorted-frame key kez l (λ d i. f d (inr i)) (t .1),
+  )
 
   pub live-frame : (m n : ℕ → Bool) (key kez : ℕ → V) (l : List ℕ) → ((c : ℕ) → In c l → n c ≡ m c) → ((c : ℕ) → In c l → kez c ≡ key c)
-    → live n kez l ≡ live m key l
+      → live n kez l ≡ live m key l
   unfolding live
   live-frame m n key kez [] f g = refl
   live-frame m n key kez (c ∷ l) f g =
@@ -154,7 +154,7 @@ module _ {V : Type 0} (O : Order V) where
     sorted-cross (z ∷ a) b t x y (inr i) j = sorted-cross a b (t .1) x y i j
 
     pub sorted-mid : (f : ℕ) (a b : List ℕ) → Sorted O key (a ++ b) → ((x : ℕ) → In x a → Below O (key x) (key f)) → Above O key (key f) b
-      → Sorted O key (a ++ f ∷ b)
+        → Sorted O key (a ++ f ∷ b)
     unfolding Sorted
     sorted-mid f [] b t p q = (q, t)
     sorted-mid f (x ∷ a) b t p q =
@@ -187,19 +187,19 @@ module _ {V : Type 0} (O : Order V) where
     added-low m k (y ∷ b) h = go (m y) (added-low m k b (λ d i. h d (inr i)))
       where
         go : (t : Bool) → added (O .cmp) k (live m key b) ≡ k ∷ live m key b
-          → added (O .cmp) k (cond t (live m key b) (key y ∷ live m key b)) ≡ k ∷ cond t (live m key b) (key y ∷ live m key b)
+            → added (O .cmp) k (cond t (live m key b) (key y ∷ live m key b)) ≡ k ∷ cond t (live m key b) (key y ∷ live m key b)
         go true ih = ih
         go false ih = rw (h y (inl refl))
 
     pub live-mid : (m : ℕ → Bool) (f : ℕ) (a b : List ℕ) → m f ≡ false → ((x : ℕ) → In x a → Below O (key x) (key f)) → Above O key (key f) b
-      → live m key (a ++ f ∷ b) ≡ added (O .cmp) (key f) (live m key (a ++ b))
+        → live m key (a ++ f ∷ b) ≡ added (O .cmp) (key f) (live m key (a ++ b))
     unfolding live added
     live-mid m f [] b e p q = rw e (sym (added-low m (key f) b q))
     live-mid m f (x ∷ a) b e p q = go (m x) (live-mid m f a b e (λ y i. p y (inr i)) q)
       where
         go : (t : Bool) → live m key (a ++ f ∷ b) ≡ added (O .cmp) (key f) (live m key (a ++ b))
-          → cond t (live m key (a ++ f ∷ b)) (key x ∷ live m key (a ++ f ∷ b))
-          ≡ added (O .cmp) (key f) (cond t (live m key (a ++ b)) (key x ∷ live m key (a ++ b)))
+            → cond t (live m key (a ++ f ∷ b)) (key x ∷ live m key (a ++ f ∷ b))
+            ≡ added (O .cmp) (key f) (cond t (live m key (a ++ b)) (key x ∷ live m key (a ++ b)))
         go true ih = ih
         go false ih = rw (turn O (key x) (key f) (p x (inl refl))) (ap (λ l. key x ∷ l) ih)
 
@@ -230,16 +230,16 @@ module _ {V : Type 0} (O : Order V) where
         go false ih = rw (turn O (key y) (key c) (t .0 c i)) ih
 
     pub live-marked : (m : ℕ → Bool) (c : ℕ) (l : List ℕ) → Sorted O key l → In c l → m c ≡ false
-      → live (put m c true) key l ≡ removed (O .cmp) (key c) (live m key l)
+        → live (put m c true) key l ≡ removed (O .cmp) (key c) (live m key l)
     unfolding live removed Sorted
     live-marked m c [] t i e = absurd i
     live-marked m c (y ∷ l) t (inl q) e =
         let a : m y ≡ false = ap m (sym q) ∙ e in
         let b : put m c true y ≡ true = ap (put m c true) (sym q) ∙ put-here m c true in
         let d : live (put m c true) key l ≡ live m key l =
-              live-frame m (put m c true) key key l
-                (λ x i. put-apart m c true x (λ z. less-irrefl (key y) (key x) (ap key (sym q) ∙ ap key (sym z)) (t .0 x i)))
-                (λ x i. refl) in
+        live-frame m (put m c true) key key l
+        (λ x i. put-apart m c true x (λ z. less-irrefl (key y) (key x) (ap key (sym q) ∙ ap key (sym z)) (t .0 x i)))
+        (λ x i. refl) in
         rw (a, b) (rw (ap (λ x. O .cmp (key c) (key x)) (sym q) ∙ O .self (key c)) d)
     live-marked m c (y ∷ l) t (inr i) e = rw apart (go (m y) (live-marked m c l (t .1) i e))
       where
@@ -247,8 +247,8 @@ module _ {V : Type 0} (O : Order V) where
         apart = put-apart m c true y (λ z. less-irrefl (key y) (key c) (ap key z) (t .0 c i))
 
         go : (b : Bool) → live (put m c true) key l ≡ removed (O .cmp) (key c) (live m key l)
-          → cond b (live (put m c true) key l) (key y ∷ live (put m c true) key l)
-          ≡ removed (O .cmp) (key c) (cond b (live m key l) (key y ∷ live m key l))
+            → cond b (live (put m c true) key l) (key y ∷ live (put m c true) key l)
+            ≡ removed (O .cmp) (key c) (cond b (live m key l) (key y ∷ live m key l))
         go true ih = ih
         go false ih = rw (turn O (key y) (key c) (t .0 c i)) (ap (λ x. key y ∷ x) ih)
 
@@ -268,7 +268,7 @@ module _ {V : Type 0} (O : Order V) where
 
     -- the list cut behind prev
     pub record Cut (P : ℕ → Place) (k : ℕ → Option ℕ) (h : Option ℕ) (l : List ℕ) (m : Option ℕ)
-      (j : Option ℕ → ℕ → Option ℕ) (g : Option ℕ → Option ℕ) (v : V) : Type 0 where
+        (j : Option ℕ → ℕ → Option ℕ) (g : Option ℕ → Option ℕ) (v : V) : Type 0 where
       pub pre : List ℕ
       pub post : List ℕ
       pub whole : l ≡ pre ++ post
@@ -278,33 +278,33 @@ module _ {V : Type 0} (O : Order V) where
       pub kept : (x : Option ℕ) (y : ℕ) → In y post → j x y ≡ k y
 
     pub cut-front : (P : ℕ → Place) (k : ℕ → Option ℕ) (h : Option ℕ) (l : List ℕ) (v : V) → Seg P k h l None
-      → Cut P k h l h (λ x. k) (λ x. x) v
+        → Cut P k h l h (λ x. k) (λ x. x) v
     unfolding Seg
     cut-front P k h l v t =
-        record
-          { pre = []
-          ; post = l
-          ; whole = refl
-          ; after = t
-          ; low = λ x i. absurd i
-          ; turned = λ x. refl
-          ; kept = λ x y i. refl
-          }
+        record {
+          pre = [];
+          post = l;
+          whole = refl;
+          after = t;
+          low = λ x i. absurd i;
+          turned = λ x. refl;
+          kept = λ x y i. refl;
+        }
 
     pub cut-cell : (P : ℕ → Place) (k : ℕ → Option ℕ) (h : Option ℕ) (l : List ℕ) (p : ℕ) (v : V) → Seg P k h l None → Sorted O key l
-      → In p l → Below O (key p) v → Cut P k h l (k p) (λ x. put k p x) (λ x. h) v
+        → In p l → Below O (key p) v → Cut P k h l (k p) (λ x. put k p x) (λ x. h) v
     unfolding Seg Sorted
     cut-cell P k h [] p v t s i lt = absurd i
     cut-cell P k h (d ∷ l) p v t s (inl e) lt =
-        record
-          { pre = d ∷ []
-          ; post = l
-          ; whole = refl
-          ; after = subst (λ x. Seg P k (k x) l None) (sym e) (t .2)
-          ; low = λ x i. low x i
-          ; turned = λ x. (t .0, t .1, ap (put k p x) (sym e) ∙ put-here k p x)
-          ; kept = λ x y i. put-apart k p x y (λ z. less-irrefl (key d) (key y) (ap key (sym e) ∙ ap key (sym z)) (s .0 y i))
-          }
+        record {
+          pre = d ∷ [];
+          post = l;
+          whole = refl;
+          after = subst (λ x. Seg P k (k x) l None) (sym e) (t .2);
+          low = λ x i. low x i;
+          turned = λ x. (t .0, t .1, ap (put k p x) (sym e) ∙ put-here k p x);
+          kept = λ x y i. put-apart k p x y (λ z. less-irrefl (key d) (key y) (ap key (sym e) ∙ ap key (sym z)) (s .0 y i));
+        }
       where
         low : (x : ℕ) → In x (d ∷ []) → Below O (key x) v
         low x (inl q) = rw (ap key (q ∙ sym e)) lt
@@ -316,15 +316,15 @@ module _ {V : Type 0} (O : Order V) where
 
         go : Cut P k (k d) l (k p) (λ x. put k p x) (λ x. k d) v → Cut P k h (d ∷ l) (k p) (λ x. put k p x) (λ x. h) v
         go c =
-            record
-              { pre = d ∷ c .pre
-              ; post = c .post
-              ; whole = ap (λ x. d ∷ x) (c .whole)
-              ; after = c .after
-              ; low = low
-              ; turned = λ x. (t .0, t .1, rw (put-apart k p x d away) (c .turned x))
-              ; kept = c .kept
-              }
+            record {
+              pre = d ∷ c .pre;
+              post = c .post;
+              whole = ap (λ x. d ∷ x) (c .whole);
+              after = c .after;
+              low = low;
+              turned = λ x. (t .0, t .1, rw (put-apart k p x d away) (c .turned x));
+              kept = c .kept;
+            }
           where
             low : (x : ℕ) → In x (d ∷ c .pre) → Below O (key x) v
             low x (inl q) = rw (ap key q) (O .trans (key d) (key p) v (s .0 p i) lt)

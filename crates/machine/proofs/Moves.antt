@@ -51,11 +51,11 @@ put-kind-back P c v {w} d e ne = go (cases-eq d c)
     go (inr n) = sym (put-apart P c v d n) ∙ e
 
 pub bound-put : (cells : ℕ) (P : ℕ → Place) (c : ℕ) (v : Place) → c < cells → ((d : ℕ) → cells ≤ d → P d ≡ nowhere)
-  → (d : ℕ) → cells ≤ d → put P c v d ≡ nowhere
+    → (d : ℕ) → cells ≤ d → put P c v d ≡ nowhere
 bound-put cells P c v lc a d h = put-apart P c v d (λ e. omega arith) ∙ a d h
 
 pub within-put : (cells : ℕ) (P : ℕ → Place) (c : ℕ) (v : Place) → (v ≡ nowhere → ⊥) → ((d : ℕ) → d < cells → P d ≡ nowhere → ⊥)
-  → (d : ℕ) → d < cells → put P c v d ≡ nowhere → ⊥
+    → (d : ℕ) → d < cells → put P c v d ≡ nowhere → ⊥
 within-put cells P c v nv a d h e = go (cases-eq d c)
   where
     go : (d ≡ c) ⊎ (d ≡ c → ⊥) → ⊥
@@ -68,40 +68,40 @@ deeds-decides s op r tr e = ap (λ x. deed x r (deeds tr)) e
 
 module _ {State : Type 0} {M : Model State} {sessions cells : ℕ} (L : Rules M sessions cells) where
   pub there-on : (A B : Scene State) (t i c : ℕ) → (means L A .keeps t i c → means L B .keeps t i c) → B .place c ≡ A .place c
-    → There L A t i c → There L B t i c
+      → There L A t i c → There L B t i c
   there-on A B t i c k e (inl p) = inl (p .0, e ∙ p .1)
   there-on A B t i c k e (inr (inl p)) = inr (inl (e ∙ p))
   there-on A B t i c k e (inr (inr p)) = inr (inr (e ∙ p .0, k (p .1)))
 
   pub safe-on : (A B : Scene State) (t i c : ℕ) → (means L A .names t i c → means L B .names t i c)
-    → (means L A .keeps t i c → means L B .keeps t i c) → B .place c ≡ A .place c → Safe L A t i c → Safe L B t i c
+      → (means L A .keeps t i c → means L B .keeps t i c) → B .place c ≡ A .place c → Safe L A t i c → Safe L B t i c
   safe-on A B t i c n k e s = record { named = n (s .named); there = there-on A B t i c k e (s .there) }
 
   pub calm-quiet : (t : ℕ) (A : Scene State) (x : State) (tr : Trace)
-    → (means L A .inside t → L .meaning x .inside t)
-    → (L .meaning x .inside t → means L A .inside t)
-    → status t tr ≡ status t (A .seen)
-    → ((i c : ℕ) → means L A .names t i c → L .meaning x .names t i c)
-    → ((i c : ℕ) → means L A .keeps t i c → L .meaning x .keeps t i c)
-    → ((c : ℕ) → Cleared t c (A .seen) → Cleared t c tr)
-    → Calm L t A (quiet L A x tr)
+      → (means L A .inside t → L .meaning x .inside t)
+      → (L .meaning x .inside t → means L A .inside t)
+      → status t tr ≡ status t (A .seen)
+      → ((i c : ℕ) → means L A .names t i c → L .meaning x .names t i c)
+      → ((i c : ℕ) → means L A .keeps t i c → L .meaning x .keeps t i c)
+      → ((c : ℕ) → Cleared t c (A .seen) → Cleared t c tr)
+      → Calm L t A (quiet L A x tr)
   calm-quiet t A x tr on back st names keeps cl =
-      record
-        { inOn = on
-        ; inBack = back
-        ; status = st
-        ; fresh = λ f h. h
-        ; freshLink = λ f h. refl
-        ; freshItem = λ f h. refl
-        ; freshBack = λ f h. h
-        ; names = names
-        ; safe = λ i c h. safe-on A (quiet L A x tr) t i c (names i c) (keeps i c) refl h
-        ; safeItem = λ i c h. refl
-        ; safeStack = λ i c h o. (o, refl)
-        ; safeList = λ i c h o. o
-        ; safeDead = λ i c h o m. (m, refl)
-        ; cleared = λ i c h. cl c
-        }
+      record {
+        inOn = on;
+        inBack = back;
+        status = st;
+        fresh = λ f h. h;
+        freshLink = λ f h. refl;
+        freshItem = λ f h. refl;
+        freshBack = λ f h. h;
+        names = names;
+        safe = λ i c h. safe-on A (quiet L A x tr) t i c (names i c) (keeps i c) refl h;
+        safeItem = λ i c h. refl;
+        safeStack = λ i c h o. (o, refl);
+        safeList = λ i c h o. o;
+        safeDead = λ i c h o m. (m, refl);
+        cleared = λ i c h. cl c;
+      }
 
   -- a move that changes one cell's place
   abbrev pub Alike : Scene State → Scene State → ℕ → Type 0
@@ -136,22 +136,22 @@ module _ {State : Type 0} {M : Model State} {sessions cells : ℕ} (L : Rules M 
 
   pub turn-calm : (t : ℕ) (A B : Scene State) (c : ℕ) → Turn t A B c → Calm L t A B
   turn-calm t A B c u =
-      record
-        { inOn = u .inOn
-        ; inBack = u .inBack
-        ; status = u .status
-        ; fresh = λ f h. u .elsewhere f (other f h) ∙ h
-        ; freshLink = λ f h. u .still f (other f h) (λ z. let k = ap kind h in omega arith) .0
-        ; freshItem = λ f h. u .still f (other f h) (λ z. let k = ap kind h in omega arith) .1
-        ; freshBack = λ f h. sym (u .elsewhere f (new f h)) ∙ h
-        ; names = u .names
-        ; safe = λ i d h. safes i d (cases-eq d c) h .0
-        ; safeItem = λ i d h. safes i d (cases-eq d c) h .1
-        ; safeStack = λ i d h. safes i d (cases-eq d c) h .2
-        ; safeList = λ i d h. safes i d (cases-eq d c) h .3
-        ; safeDead = λ i d h. safes i d (cases-eq d c) h .4
-        ; cleared = u .cleared
-        }
+      record {
+        inOn = u .inOn;
+        inBack = u .inBack;
+        status = u .status;
+        fresh = λ f h. u .elsewhere f (other f h) ∙ h;
+        freshLink = λ f h. u .still f (other f h) (λ z. let k = ap kind h in omega arith) .0;
+        freshItem = λ f h. u .still f (other f h) (λ z. let k = ap kind h in omega arith) .1;
+        freshBack = λ f h. sym (u .elsewhere f (new f h)) ∙ h;
+        names = u .names;
+        safe = λ i d h. safes i d (cases-eq d c) h .0;
+        safeItem = λ i d h. safes i d (cases-eq d c) h .1;
+        safeStack = λ i d h. safes i d (cases-eq d c) h .2;
+        safeList = λ i d h. safes i d (cases-eq d c) h .3;
+        safeDead = λ i d h. safes i d (cases-eq d c) h .4;
+        cleared = u .cleared;
+      }
     where
       other : (f : ℕ) → A .place f ≡ freshOf t → f ≡ c → ⊥
       other f h e = u .mine (ap (A .place) (sym e) ∙ h)
@@ -187,7 +187,7 @@ module _ {State : Type 0} {M : Model State} {sessions cells : ℕ} (L : Rules M 
 
   -- a cell that is safe is linked, in the list or held
   pub safe-kind : (A : Scene State) (t i c : ℕ) → Safe L A t i c
-    → (kind (A .place c) ≡ 3) ⊎ ((kind (A .place c) ≡ 5) ⊎ (kind (A .place c) ≡ 2))
+      → (kind (A .place c) ≡ 3) ⊎ ((kind (A .place c) ≡ 5) ⊎ (kind (A .place c) ≡ 2))
   safe-kind A t i c h = go (h .there)
     where
       go : There L A t i c → (kind (A .place c) ≡ 3) ⊎ ((kind (A .place c) ≡ 5) ⊎ (kind (A .place c) ≡ 2))
@@ -197,47 +197,47 @@ module _ {State : Type 0} {M : Model State} {sessions cells : ℕ} (L : Rules M 
 
   module _ {V : Type 0} (O : Order V) (val : ℕ → V) where
     pub sound-quiet : (A : Scene State) (x : State) (tr : Trace) → L .fit x → SameHeld (means L A) (L .meaning x)
-      → played (O .cmp) val (deeds tr) ≡ played (O .cmp) val (deeds (A .seen)) → Orderly tr → Truthful (O .cmp) val (deeds tr)
-      → Sound L O val A → Sound L O val (quiet L A x tr)
+        → played (O .cmp) val (deeds tr) ≡ played (O .cmp) val (deeds (A .seen)) → Orderly tr → Truthful (O .cmp) val (deeds tr)
+        → Sound L O val A → Sound L O val (quiet L A x tr)
     sound-quiet A x tr fx h p o t a =
-        record
-          { fit = fx
-          ; free = a .free
-          ; freeBack = a .freeBack
-          ; heldOn = λ c m. a .heldOn c (h .back c m)
-          ; heldBack = λ c m. h .on c (a .heldBack c m)
-          ; chain = a .chain
-          ; line = a .line
-          ; lineBack = a .lineBack
-          ; linked = a .linked
-          ; sorted = a .sorted
-          ; stack = a .stack ∙ ap (λ z. z .stack) (sym p)
-          ; set = a .set ∙ ap (λ z. z .set) (sym p)
-          ; bound = a .bound
-          ; within = a .within
-          ; count = a .count
-          ; orderly = o
-          ; truthful = t
-          }
+        record {
+          fit = fx;
+          free = a .free;
+          freeBack = a .freeBack;
+          heldOn = λ c m. a .heldOn c (h .back c m);
+          heldBack = λ c m. h .on c (a .heldBack c m);
+          chain = a .chain;
+          line = a .line;
+          lineBack = a .lineBack;
+          linked = a .linked;
+          sorted = a .sorted;
+          stack = a .stack ∙ ap (λ z. z .stack) (sym p);
+          set = a .set ∙ ap (λ z. z .set) (sym p);
+          bound = a .bound;
+          within = a .within;
+          count = a .count;
+          orderly = o;
+          truthful = t;
+        }
 
     -- enter
     abbrev pub enterScene : Scene State → ℕ → Op → Scene State
     enterScene A s op = quiet L A (after-enter M (A .memory .reclaimer) s) (begins s op ∷ A .seen)
 
     pub enter-sound : (A : Scene State) (s : ℕ) (op : Op) → s < sessions → (means L A .inside s → ⊥)
-      → status s (A .seen) ≡ outside → Sound L O val A → Sound L O val (enterScene A s op)
+        → status s (A .seen) ≡ outside → Sound L O val A → Sound L O val (enterScene A s op)
     unfolding deeds Orderly
     enter-sound A s op lt out st a =
         sound-quiet A (after-enter M (A .memory .reclaimer) s) (begins s op ∷ A .seen) (L .fits-enters (A .memory .reclaimer) s (a .fit)) (L .entering (A .memory .reclaimer) s (a .fit) lt out .held) refl (st, a .orderly) (a .truthful) a
 
     pub enter-calm : (A : Scene State) (s : ℕ) (op : Op) → L .fit (A .memory .reclaimer) → s < sessions → (means L A .inside s → ⊥)
-      → (t : ℕ) → (t ≡ s → ⊥) → Calm L t A (enterScene A s op)
+        → (t : ℕ) → (t ≡ s → ⊥) → Calm L t A (enterScene A s op)
     unfolding Cleared
     enter-calm A s op fx lt out t ne =
         let e = L .entering (A .memory .reclaimer) s fx lt out in
         calm-quiet t A (after-enter M (A .memory .reclaimer) s) (begins s op ∷ A .seen)
-          (e .on t) (λ h. e .back t h ne) (status-begins s t op (A .seen) ne)
-          (e .slots .names t) (e .slots .keeps t) (λ c h. (λ q. ne (sym q), h))
+        (e .on t) (λ h. e .back t h ne) (status-begins s t op (A .seen) ne)
+        (e .slots .names t) (e .slots .keeps t) (λ c h. (λ q. ne (sym q), h))
 
     pub enter-in : (A : Scene State) (s : ℕ) (op : Op) → L .fit (A .memory .reclaimer) → s < sessions → (means L A .inside s → ⊥) → means L (enterScene A s op) .inside s
     enter-in A s op fx lt out = L .entering (A .memory .reclaimer) s fx lt out .self
@@ -247,19 +247,19 @@ module _ {State : Type 0} {M : Model State} {sessions cells : ℕ} (L : Rules M 
     leaveScene A s a = quiet L A (after-leave M (A .memory .reclaimer) s) (completes s a ∷ A .seen)
 
     pub leave-sound : (A : Scene State) (s : ℕ) (op : Op) (r : Answer) → s < sessions → means L A .inside s
-      → status s (A .seen) ≡ decided op r → Sound L O val A → Sound L O val (leaveScene A s r)
+        → status s (A .seen) ≡ decided op r → Sound L O val A → Sound L O val (leaveScene A s r)
     unfolding deeds Orderly
     leave-sound A s op r lt in₁ st a =
         sound-quiet A (after-leave M (A .memory .reclaimer) s) (completes s r ∷ A .seen) (L .fits-leaves (A .memory .reclaimer) s (a .fit)) (L .leaving (A .memory .reclaimer) s (a .fit) lt in₁ .held) refl ((op, st), a .orderly) (a .truthful) a
 
     pub leave-calm : (A : Scene State) (s : ℕ) (r : Answer) → L .fit (A .memory .reclaimer) → s < sessions → means L A .inside s
-      → (t : ℕ) → (t ≡ s → ⊥) → Calm L t A (leaveScene A s r)
+        → (t : ℕ) → (t ≡ s → ⊥) → Calm L t A (leaveScene A s r)
     unfolding Cleared
     leave-calm A s r fx lt in₁ t ne =
         let e = L .leaving (A .memory .reclaimer) s fx lt in₁ in
         calm-quiet t A (after-leave M (A .memory .reclaimer) s) (completes s r ∷ A .seen)
-          (e .on t ne) (e .back t) (status-completes s t r (A .seen) ne)
-          (λ i c. e .names t i c ne) (λ i c. e .keeps t i c ne) (λ c h. h)
+        (e .on t ne) (e .back t) (status-completes s t r (A .seen) ne)
+        (λ i c. e .names t i c ne) (λ i c. e .keeps t i c ne) (λ c h. h)
 
     -- protect
     abbrev pub protectScene : Scene State → ℕ → ℕ → ℕ → Scene State
@@ -276,8 +276,8 @@ module _ {State : Type 0} {M : Model State} {sessions cells : ℕ} (L : Rules M 
       pub protect-calm : (t : ℕ) → (t ≡ s → ⊥) → Calm L t A (protectScene A s i c)
       protect-calm t ne =
           calm-quiet t A (after-protect M (A .memory .reclaimer) s i c) (A .seen)
-            (shield .inside .on t) (shield .inside .back t) refl
-            (λ j d. shield .names t j d (λ q. ne (q .0))) (λ j d. shield .keeps t j d (λ q. ne (q .0))) (λ d h. h)
+          (shield .inside .on t) (shield .inside .back t) refl
+          (λ j d. shield .names t j d (λ q. ne (q .0))) (λ j d. shield .keeps t j d (λ q. ne (q .0))) (λ d h. h)
 
       pub protect-in : means L (protectScene A s i c) .inside s
       protect-in = shield .inside .on s in₁
@@ -329,20 +329,20 @@ module _ {State : Type 0} {M : Model State} {sessions cells : ℕ} (L : Rules M 
 
     -- an operation is decided that changes nothing
     pub judge-sound : (A : Scene State) (s : ℕ) (op : Op) (r : Answer) → status s (A .seen) ≡ under op
-      → serve (O .cmp) val op (played (O .cmp) val (deeds (A .seen))) ≡ (played (O .cmp) val (deeds (A .seen)), r)
-      → Sound L O val A → Sound L O val (sees A (decides s r))
+        → serve (O .cmp) val op (played (O .cmp) val (deeds (A .seen))) ≡ (played (O .cmp) val (deeds (A .seen)), r)
+        → Sound L O val A → Sound L O val (sees A (decides s r))
     unfolding Orderly played Truthful
     judge-sound A s op r st e a =
         let d : deeds (decides s r ∷ A .seen) ≡ (op, r) ∷ deeds (A .seen) = deeds-decides s op r (A .seen) st in
         sound-quiet A (A .memory .reclaimer) (decides s r ∷ A .seen) (a .fit) (same-held (means L A))
-          (ap (played (O .cmp) val) d ∙ ap (λ x. x .0) e) ((op, st), a .orderly)
-          (subst (Truthful (O .cmp) val) (sym d) (sym (ap (λ x. x .1) e), a .truthful)) a
+        (ap (played (O .cmp) val) d ∙ ap (λ x. x .0) e) ((op, st), a .orderly)
+        (subst (Truthful (O .cmp) val) (sym d) (sym (ap (λ x. x .1) e), a .truthful)) a
 
     pub decide-calm : (A : Scene State) (s t : ℕ) (r : Answer) → (t ≡ s → ⊥) → Calm L t A (sees A (decides s r))
     unfolding Cleared
     decide-calm A s t r ne =
         calm-quiet t A (A .memory .reclaimer) (decides s r ∷ A .seen) (λ h. h) (λ h. h) (status-decides s t r (A .seen) ne)
-          (λ i d h. h) (λ i d h. h) (λ d h. h)
+        (λ i d h. h) (λ i d h. h) (λ d h. h)
 
     pub inBounds : (A : Scene State) → Sound L O val A → (c : ℕ) → (kind (A .place c) ≡ 0 → ⊥) → c < cells
     inBounds A a c ne = go (cases-lt c cells)
@@ -360,13 +360,13 @@ module _ {State : Type 0} {M : Model State} {sessions cells : ℕ} (L : Rules M 
     -- take a cell off the free stack, for s
     abbrev pub takeScene : Scene State → ℕ → ℕ → List ℕ → ℕ → Scene State
     takeScene A s f rest p =
-        record
-          { memory = taken M (A .memory) f rest p
-          ; place = put (A .place) f (freshOf s)
-          ; chain = A .chain
-          ; line = A .line
-          ; seen = A .seen
-          }
+        record {
+          memory = taken M (A .memory) f rest p;
+          place = put (A .place) f (freshOf s);
+          chain = A .chain;
+          line = A .line;
+          seen = A .seen;
+        }
 
     module _ (A : Scene State) (s f : ℕ) (rest : List ℕ) (p : ℕ) (e : A .memory .free ≡ f ∷ rest) (a : Sound L O val A) where
       pub top : (A .place f ≡ freeAt (length rest)) × Stacked (A .place) rest
@@ -384,55 +384,55 @@ module _ {State : Type 0} {M : Model State} {sessions cells : ℕ} (L : Rules M 
 
       pub take-sound : Sound L O val (takeScene A s f rest p)
       take-sound =
-          record
-            { fit = a .fit
-            ; free =
+          record {
+            fit = a .fit;
+            free =
                 stacked-frame (A .place) (put (A .place) f (freshOf s)) rest
-                  (λ c k q h. put-apart (A .place) f (freshOf s) c
-                    (λ z. let w : freeAt k ≡ freeAt (length rest) = sym q ∙ (ap (A .place) z ∙ top .0) in
-                          let w′ : k ≡ length rest = cc in
-                          omega arith)
-                    ∙ q)
-                  (top .1)
-            ; freeBack = λ c k q. still c k q (subst (In c) e (a .freeBack c k (put-kind-back (A .place) f (freshOf s) c q (λ z. omega arith))))
-            ; heldOn = λ c h. put-kind (A .place) f (freshOf s) c (a .heldOn c h) (λ z. let k = ap kind (top .0) in omega arith)
-            ; heldBack = λ c h. a .heldBack c (put-kind-back (A .place) f (freshOf s) c h (λ z. omega arith))
-            ; chain =
+                (λ c k q h. put-apart (A .place) f (freshOf s) c
+                (λ z. let w : freeAt k ≡ freeAt (length rest) = sym q ∙ (ap (A .place) z ∙ top .0) in
+                let w′ : k ≡ length rest = cc in
+                omega arith)
+                ∙ q)
+                (top .1);
+            freeBack = λ c k q. still c k q (subst (In c) e (a .freeBack c k (put-kind-back (A .place) f (freshOf s) c q (λ z. omega arith))));
+            heldOn = λ c h. put-kind (A .place) f (freshOf s) c (a .heldOn c h) (λ z. let k = ap kind (top .0) in omega arith);
+            heldBack = λ c h. a .heldBack c (put-kind-back (A .place) f (freshOf s) c h (λ z. omega arith));
+            chain =
                 chain-frame (A .place) (put (A .place) f (freshOf s)) (A .memory .link) (put (A .memory .link) f None) (A .memory .head) (A .chain)
-                  (λ c n q h. put-apart (A .place) f (freshOf s) c (take-link c n q) ∙ q)
-                  (λ c n q h. put-apart (A .memory .link) f None c (take-link c n q))
-                  (a .chain)
-            ; line =
+                (λ c n q h. put-apart (A .place) f (freshOf s) c (take-link c n q) ∙ q)
+                (λ c n q h. put-apart (A .memory .link) f None c (take-link c n q))
+                (a .chain);
+            line =
                 Lists.seg-frame (A .place) (put (A .place) f (freshOf s)) (A .memory .link) (put (A .memory .link) f None) (A .memory .front) (A .line) None
-                  (λ c i q. put-apart (A .place) f (freshOf s) c (take-line c i) ∙ q)
-                  (λ c i q. put-apart (A .memory .link) f None c (take-line c i))
-                  (a .line)
-            ; lineBack = λ c q. a .lineBack c (put-kind-back (A .place) f (freshOf s) c q (λ z. omega arith))
-            ; linked = λ c n q. took c n q (cases-eq c f)
-            ; sorted =
+                (λ c i q. put-apart (A .place) f (freshOf s) c (take-line c i) ∙ q)
+                (λ c i q. put-apart (A .memory .link) f None c (take-line c i))
+                (a .line);
+            lineBack = λ c q. a .lineBack c (put-kind-back (A .place) f (freshOf s) c q (λ z. omega arith));
+            linked = λ c n q. took c n q (cases-eq c f);
+            sorted =
                 Lists.sorted-frame O (key L O val A) (key L O val (takeScene A s f rest p)) (A .line)
-                  (λ c i. ap val (put-apart (A .memory .item) f p c (take-line c i)))
-                  (a .sorted)
-            ; stack =
+                (λ c i. ap val (put-apart (A .memory .item) f p c (take-line c i)))
+                (a .sorted);
+            stack =
                 map-frame (A .place) (A .memory .link) (A .memory .item) (put (A .memory .item) f p) (A .memory .head) (A .chain)
-                  (λ c n q. put-apart (A .memory .item) f p c (take-link c n q))
-                  (a .chain)
-                ∙ a .stack
-            ; set =
+                (λ c n q. put-apart (A .memory .item) f p c (take-link c n q))
+                (a .chain)
+                ∙ a .stack;
+            set =
                 Lists.live-frame O (A .memory .mark) (put (A .memory .mark) f false) (key L O val A) (key L O val (takeScene A s f rest p)) (A .line)
-                  (λ c i. put-apart (A .memory .mark) f false c (take-line c i))
-                  (λ c i. ap val (put-apart (A .memory .item) f p c (take-line c i)))
-                ∙ a .set
-            ; bound = bound-put cells (A .place) f (freshOf s) take-in (a .bound)
-            ; within = within-put cells (A .place) f (freshOf s) (λ z. let k = ap kind z in omega arith) (a .within)
-            ; count =
+                (λ c i. put-apart (A .memory .mark) f false c (take-line c i))
+                (λ c i. ap val (put-apart (A .memory .item) f p c (take-line c i)))
+                ∙ a .set;
+            bound = bound-put cells (A .place) f (freshOf s) take-in (a .bound);
+            within = within-put cells (A .place) f (freshOf s) (λ z. let k = ap kind z in omega arith) (a .within);
+            count =
                 let t = total-put (A .place) f (freshOf s) cells take-in in
                 let u : isLink (A .place f) ≡ 0 = ap isLink (top .0) in
                 let c = a .count in
-                omega arith
-            ; orderly = a .orderly
-            ; truthful = a .truthful
-            }
+                omega arith;
+            orderly = a .orderly;
+            truthful = a .truthful;
+          }
         where
           took : (c n : ℕ) → put (A .memory .link) f None c ≡ Some n → (c ≡ f) ⊎ (c ≡ f → ⊥) → n < cells
           took c n q (inl z) =
@@ -450,22 +450,22 @@ module _ {State : Type 0} {M : Model State} {sessions cells : ℕ} (L : Rules M 
       pub take-calm : (t : ℕ) → (t ≡ s → ⊥) → Calm L t A (takeScene A s f rest p)
       take-calm t ne =
           turn-calm t A (takeScene A s f rest p) f
-            (record
-              { inOn = λ h. h
-              ; inBack = λ h. h
-              ; status = refl
-              ; elsewhere = λ d n. put-apart (A .place) f (freshOf s) d n
-              ; mine = λ h. let k = ap kind (sym (top .0) ∙ h) in omega arith
-              ; made = λ h. let k : freshOf s ≡ freshOf t = sym (put-here (A .place) f (freshOf s)) ∙ h in
-                            let k′ : t ≡ s = cc in
-                            ne k′
-              ; still = λ d n z. (put-apart (A .memory .link) f None d n, put-apart (A .memory .item) f p d n, put-apart (A .memory .mark) f false d n)
-              ; listed = λ d n z. (put-apart (A .memory .item) f p d n, λ m. (put-apart (A .memory .mark) f false d n ∙ m, put-apart (A .memory .link) f None d n))
-              ; names = λ i d h. h
-              ; keeps = λ i d n h. h
-              ; here = λ i h. absurd (no-safe (safe-kind A t i f h))
-              ; cleared = λ i d h k. k
-              })
+          (record {
+            inOn = λ h. h;
+            inBack = λ h. h;
+            status = refl;
+            elsewhere = λ d n. put-apart (A .place) f (freshOf s) d n;
+            mine = λ h. let k = ap kind (sym (top .0) ∙ h) in omega arith;
+            made = λ h. let k : freshOf s ≡ freshOf t = sym (put-here (A .place) f (freshOf s)) ∙ h in
+                let k′ : t ≡ s = cc in
+                ne k′;
+            still = λ d n z. (put-apart (A .memory .link) f None d n, put-apart (A .memory .item) f p d n, put-apart (A .memory .mark) f false d n);
+            listed = λ d n z. (put-apart (A .memory .item) f p d n, λ m. (put-apart (A .memory .mark) f false d n ∙ m, put-apart (A .memory .link) f None d n));
+            names = λ i d h. h;
+            keeps = λ i d n h. h;
+            here = λ i h. absurd (no-safe (safe-kind A t i f h));
+            cleared = λ i d h k. k;
+          })
         where
           no-safe : (kind (A .place f) ≡ 3) ⊎ ((kind (A .place f) ≡ 5) ⊎ (kind (A .place f) ≡ 2)) → ⊥
           no-safe h = let k = ap kind (top .0) in omega arith

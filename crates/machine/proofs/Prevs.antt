@@ -52,21 +52,21 @@ module _ {State : Type 0} {M : Model State} {sessions cells : ℕ} (L : Rules M 
     pub from : Line.From L O val A (λ x. link-after (A .memory) q x)
 
   pub behind : (A : Scene State) (s i k : ℕ) (q : Prev) → Sound L O val A → Clean L O val A s i k q → mark-at (A .memory) q ≡ false
-    → Behind A q (link-at (A .memory) q) (val k)
+      → Behind A q (link-at (A .memory) q) (val k)
   behind A s i k Front a h e =
-      record
-        { cut = Lists.cut-front O (key L O val A) (A .place) (A .memory .link) (A .memory .front) (A .line) (val k) (a .line)
-        ; keep = λ x d z. refl
-        ; from = λ x d n z. inl z
-        }
+      record {
+        cut = Lists.cut-front O (key L O val A) (A .place) (A .memory .link) (A .memory .front) (A .line) (val k) (a .line);
+        keep = λ x d z. refl;
+        from = λ x d n z. inl z;
+      }
   behind A s i k (At p) a h e =
       let w : A .place p ≡ inList = in-list A p (h .0 .list) e in
-      record
-        { cut =
-            Lists.cut-cell O (key L O val A) (A .place) (A .memory .link) (A .memory .front) (A .line) p (val k) (a .line) (a .sorted) (a .lineBack p w) (h .1)
-        ; keep = λ x d z. put-apart (A .memory .link) p x d (λ q. off d w q z)
-        ; from = λ x d n z. from x d n z (cases-eq d p)
-        }
+      record {
+        cut =
+            Lists.cut-cell O (key L O val A) (A .place) (A .memory .link) (A .memory .front) (A .line) p (val k) (a .line) (a .sorted) (a .lineBack p w) (h .1);
+        keep = λ x d z. put-apart (A .memory .link) p x d (λ q. off d w q z);
+        from = λ x d n z. from x d n z (cases-eq d p);
+      }
     where
       from : (x : Option ℕ) (d n : ℕ) → put (A .memory .link) p x d ≡ Some n → (d ≡ p) ⊎ (d ≡ p → ⊥) → (A .memory .link d ≡ Some n) ⊎ (x ≡ Some n)
       from x d n z (inl y) = inr (sym (put-here (A .memory .link) p x) ∙ (ap (put (A .memory .link) p x) (sym y) ∙ z))
@@ -77,14 +77,14 @@ module _ {State : Type 0} {M : Model State} {sessions cells : ℕ} (L : Rules M 
       off d w q (inr m) = true≢false (sym m ∙ (ap (A .memory .mark) q ∙ e))
 
   pub behind-at : (A : Scene State) (s i k : ℕ) (q : Prev) (c : Option ℕ) → Sound L O val A → Clean L O val A s i k q → points (A .memory) q c ≡ true
-    → Behind A q c (val k)
+      → Behind A q c (val k)
   behind-at A s i k q c a h e =
       let w = is-true (mark-at (A .memory) q) (link-at (A .memory) q) c e in
       subst (λ m. Behind A q m (val k)) (w .1) (behind A s i k q a h (w .0))
 
   -- nothing behind prev is sought
   pub no-key : (A : Scene State) (q : Prev) (m : Option ℕ) (k : ℕ) (h : Behind A q m (val k)) → Above O (key L O val A) (val k) (h .cut .post)
-    → (x : ℕ) → In x (A .line) → key L O val A x ≡ val k → ⊥
+      → (x : ℕ) → In x (A .line) → key L O val A x ≡ val k → ⊥
   no-key A q m k h up x i e = go (Lists.in-append x (h .cut .pre) (h .cut .post) (subst (In x) (h .cut .whole) i))
     where
       go : In x (h .cut .pre) ⊎ In x (h .cut .post) → ⊥
@@ -96,16 +96,16 @@ module _ {State : Type 0} {M : Model State} {sessions cells : ℕ} (L : Rules M 
   Over A v (Some c) = Below O v (key L O val A c)
 
   pub above-post : (A : Scene State) (q : Prev) (m : Option ℕ) (v : V) → Sound L O val A → (h : Behind A q m v) → Over A v m
-    → Above O (key L O val A) v (h .cut .post)
+      → Above O (key L O val A) v (h .cut .post)
   above-post A q None v a h up =
       let e = Lists.seg-none (A .place) (A .memory .link) (h .cut .post) (h .cut .after) in
       subst (λ l. Above O (key L O val A) v l) (sym e) (λ d i. absurd i)
   above-post A q (Some c) v a h up =
       let r = Lists.seg-some (A .place) (A .memory .link) c (h .cut .post) (h .cut .after) in
       let s₀ : Sorted O (key L O val A) (h .cut .post) =
-            Lists.sorted-right O (key L O val A) (h .cut .pre) (h .cut .post) (subst (Sorted O (key L O val A)) (h .cut .whole) (a .sorted)) in
+      Lists.sorted-right O (key L O val A) (h .cut .pre) (h .cut .post) (subst (Sorted O (key L O val A)) (h .cut .whole) (a .sorted)) in
       subst (λ l. Above O (key L O val A) v l) (sym (r .1))
-        (Lists.sorted-first O (key L O val A) c (r .0) v (subst (Sorted O (key L O val A)) (r .1) s₀) up)
+      (Lists.sorted-first O (key L O val A) c (r .0) v (subst (Sorted O (key L O val A)) (r .1) s₀) up)
 
   pub beyond-over : (A : Scene State) (s k : ℕ) (c : Option ℕ) → Beyond L O val A s k c → Over A (val k) c
   beyond-over A s k None h = tt
@@ -153,11 +153,11 @@ module _ {State : Type 0} {M : Model State} {sessions cells : ℕ} (L : Rules M 
 
     pub write-cur : (i d : ℕ) → Cur L A s i d → Cur L (More.writeScene L O val A f l) s i d
     write-cur i d h =
-        record
-          { safe = Moves.safe-on L A (More.writeScene L O val A f l) s i d (λ x. x) (λ x. x) refl (h .safe)
-          ; list = list (h .list)
-          ; cleared = h .cleared
-          }
+        record {
+          safe = Moves.safe-on L A (More.writeScene L O val A f l) s i d (λ x. x) (λ x. x) refl (h .safe);
+          list = list (h .list);
+          cleared = h .cleared;
+        }
       where
         list : OnList A d → OnList (More.writeScene L O val A f l) d
         list (inl p) = inl p
@@ -173,15 +173,15 @@ module _ {State : Type 0} {M : Model State} {sessions cells : ℕ} (L : Rules M 
 
   -- over its own mark
   module _ (A : Scene State) (s c p : ℕ) (e : A .place c ≡ inList) (mk : A .memory .mark c ≡ false) (eq : key L O val A c ≡ val p)
-    (st : status s (A .seen) ≡ under (Delete p)) (a : Sound L O val A) where
+      (st : status s (A .seen) ≡ under (Delete p)) (a : Sound L O val A) where
     pub mark-cur : (i d : ℕ) → Cur L A s i d → Cur L (Line.markScene L O val A s c) s i d
     unfolding Cleared
     mark-cur i d h =
-        record
-          { safe = Moves.safe-on L A (Line.markScene L O val A s c) s i d (λ x. x) (λ x. x) refl (h .safe)
-          ; list = list (h .list)
-          ; cleared = h .cleared
-          }
+        record {
+          safe = Moves.safe-on L A (Line.markScene L O val A s c) s i d (λ x. x) (λ x. x) refl (h .safe);
+          list = list (h .list);
+          cleared = h .cleared;
+        }
       where
         list : OnList A d → OnList (Line.markScene L O val A s c) d
         list (inl q) = inl q

@@ -12,7 +12,6 @@ use Rattle.reclaim.specs.Model.{Model, after-enter, after-leave, after-protect,
 use Rattle.machine.specs.declared.stage.Stage.{Stage}
 use Rattle.machine.specs.Machine.{put, Trace, Memory, Outcome}
 
-
 pub record Meaning : Type 1 where
   pub inside : ℕ → Type 0
   pub held : ℕ → Type 0
@@ -98,7 +97,7 @@ pub record Rules {State : Type 0} (M : Model State) (sessions cells : ℕ) : Typ
   pub entering : (x : State) (s : ℕ) → fit x → s < sessions → (meaning x .inside s → ⊥) → Entered s (meaning x) (meaning (after-enter M x s))
   pub leaving : (x : State) (s : ℕ) → fit x → s < sessions → meaning x .inside s → Left s (meaning x) (meaning (after-leave M x s))
   pub protecting : (x : State) (s i c : ℕ) → fit x → s < sessions → meaning x .inside s → i < 3 → c < cells
-    → Protected s i c (meaning x) (meaning (after-protect M x s i c))
+      → Protected s i c (meaning x) (meaning (after-protect M x s i c))
   pub retiring : (x : State) (c : ℕ) → fit x → c < cells → (meaning x .held c → ⊥) → Retired c (meaning x) (meaning (after-retire M x c))
   pub collecting : (x : State) → fit x → Collected (M .picks x) (meaning x) (meaning (M .collects x))
 

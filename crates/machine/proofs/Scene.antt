@@ -137,7 +137,7 @@ module _ {State : Type 0} {M : Model State} {sessions cells : ℕ} (L : Rules M 
     pub safeStack : (i c : ℕ) → Safe A s i c → OnStack A c → OnStack B c × (B .memory .link c ≡ A .memory .link c)
     pub safeList : (i c : ℕ) → Safe A s i c → OnList A c → OnList B c
     pub safeDead : (i c : ℕ) → Safe A s i c → OnList A c → A .memory .mark c ≡ true
-      → (B .memory .mark c ≡ true) × (B .memory .link c ≡ A .memory .link c)
+        → (B .memory .mark c ≡ true) × (B .memory .link c ≡ A .memory .link c)
     pub cleared : (i c : ℕ) → Safe A s i c → Cleared s c (A .seen) → Cleared s c (B .seen)
 
   pub record Busy (A : Scene State) (s : ℕ) (op : Op) : Type 0 where
@@ -303,49 +303,49 @@ module _ {State : Type 0} {M : Model State} {sessions cells : ℕ} (L : Rules M 
 
   pub calm-refl : (s : ℕ) (A : Scene State) → Calm s A A
   calm-refl s A =
-      record
-        { inOn = λ h. h
-        ; inBack = λ h. h
-        ; status = refl
-        ; fresh = λ f h. h
-        ; freshLink = λ f h. refl
-        ; freshItem = λ f h. refl
-        ; freshBack = λ f h. h
-        ; names = λ i c h. h
-        ; safe = λ i c h. h
-        ; safeItem = λ i c h. refl
-        ; safeStack = λ i c h o. (o, refl)
-        ; safeList = λ i c h o. o
-        ; safeDead = λ i c h o m. (m, refl)
-        ; cleared = λ i c h k. k
-        }
+      record {
+        inOn = λ h. h;
+        inBack = λ h. h;
+        status = refl;
+        fresh = λ f h. h;
+        freshLink = λ f h. refl;
+        freshItem = λ f h. refl;
+        freshBack = λ f h. h;
+        names = λ i c h. h;
+        safe = λ i c h. h;
+        safeItem = λ i c h. refl;
+        safeStack = λ i c h o. (o, refl);
+        safeList = λ i c h o. o;
+        safeDead = λ i c h o m. (m, refl);
+        cleared = λ i c h k. k;
+      }
 
   pub calm-trans : {s : ℕ} {A B C : Scene State} → Calm s A B → Calm s B C → Calm s A C
   calm-trans p q =
-      record
-        { inOn = λ h. q .inOn (p .inOn h)
-        ; inBack = λ h. p .inBack (q .inBack h)
-        ; status = q .status ∙ p .status
-        ; fresh = λ f h. q .fresh f (p .fresh f h)
-        ; freshLink = λ f h. q .freshLink f (p .fresh f h) ∙ p .freshLink f h
-        ; freshItem = λ f h. q .freshItem f (p .fresh f h) ∙ p .freshItem f h
-        ; freshBack = λ f h. p .freshBack f (q .freshBack f h)
-        ; names = λ i c h. q .names i c (p .names i c h)
-        ; safe = λ i c h. q .safe i c (p .safe i c h)
-        ; safeItem = λ i c h. q .safeItem i c (p .safe i c h) ∙ p .safeItem i c h
-        ; safeStack =
+      record {
+        inOn = λ h. q .inOn (p .inOn h);
+        inBack = λ h. p .inBack (q .inBack h);
+        status = q .status ∙ p .status;
+        fresh = λ f h. q .fresh f (p .fresh f h);
+        freshLink = λ f h. q .freshLink f (p .fresh f h) ∙ p .freshLink f h;
+        freshItem = λ f h. q .freshItem f (p .fresh f h) ∙ p .freshItem f h;
+        freshBack = λ f h. p .freshBack f (q .freshBack f h);
+        names = λ i c h. q .names i c (p .names i c h);
+        safe = λ i c h. q .safe i c (p .safe i c h);
+        safeItem = λ i c h. q .safeItem i c (p .safe i c h) ∙ p .safeItem i c h;
+        safeStack =
             λ i c h o.
-              let a = p .safeStack i c h o in
-              let b = q .safeStack i c (p .safe i c h) (a .0) in
-              (b .0, b .1 ∙ a .1)
-        ; safeList = λ i c h o. q .safeList i c (p .safe i c h) (p .safeList i c h o)
-        ; safeDead =
+            let a = p .safeStack i c h o in
+            let b = q .safeStack i c (p .safe i c h) (a .0) in
+            (b .0, b .1 ∙ a .1);
+        safeList = λ i c h o. q .safeList i c (p .safe i c h) (p .safeList i c h o);
+        safeDead =
             λ i c h o m.
-              let a = p .safeDead i c h o m in
-              let b = q .safeDead i c (p .safe i c h) (p .safeList i c h o) (a .0) in
-              (b .0, b .1 ∙ a .1)
-        ; cleared = λ i c h k. q .cleared i c (p .safe i c h) (p .cleared i c h k)
-        }
+            let a = p .safeDead i c h o m in
+            let b = q .safeDead i c (p .safe i c h) (p .safeList i c h o) (a .0) in
+            (b .0, b .1 ∙ a .1);
+        cleared = λ i c h k. q .cleared i c (p .safe i c h) (p .cleared i c h k);
+      }
 
   module _ {s : ℕ} {A B : Scene State} (m : Calm s A B) where
     pub busy-calm : {op : Op} → Busy A s op → Busy B s op

@@ -18,8 +18,8 @@ use Rattle.machine.specs.Machine.{Machine, moving, answering, refusing, worded
 
 module _ {State : Type 0} (M : Model State) (cmp : ℕ → ℕ → Ordering) (n : ℕ) where
   same-sizes : (m : Machine State) (t : Bool) (r : Result Word Reason)
-    → (cond t (answering M cmp m r) (refusing M m reason.OtherItems) .after .sessions ≡ m .sessions)
-    × (cond t (answering M cmp m r) (refusing M m reason.OtherItems) .after .items ≡ m .items)
+      → (cond t (answering M cmp m r) (refusing M m reason.OtherItems) .after .sessions ≡ m .sessions)
+      × (cond t (answering M cmp m r) (refusing M m reason.OtherItems) .after .items ≡ m .items)
   unfolding moving
   same-sizes m false r = (refl, refl)
   same-sizes m true (Err why) = (refl, refl)

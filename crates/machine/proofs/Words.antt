@@ -63,21 +63,21 @@ module _ {State : Type 0} {M : Model State} {sessions cells : ℕ} (L : Rules M 
 
     -- a fresh cell of B is taken, for a push or an insert
     taking : (B : Scene State) (f : ℕ) (rest : List ℕ) (k : Adding) (p : ℕ) → B .memory .free ≡ f ∷ rest → Sound L O val B
-      → ((t : ℕ) → Calm L t A B) → Stands L O val B s Outside → Steps.Back L O val A B
-      → Inv L O val (record
-          { memory = begun M (B .memory) [] s k p (f ∷ rest) .memory
-          ; stage = put (b .stage) s (first-stage k p f)
-          ; seen = begins s (op-of k p) ∷ B .seen
-          })
+        → ((t : ℕ) → Calm L t A B) → Stands L O val B s Outside → Steps.Back L O val A B
+        → Inv L O val (record {
+          memory = begun M (B .memory) [] s k p (f ∷ rest) .memory;
+          stage = put (b .stage) s (first-stage k p f);
+          seen = begins s (op-of k p) ∷ B .seen;
+        })
     taking B f rest k p e sound calm st back =
         Steps.land L O val b i s lt Outside eq D (first-stage k p f)
-          (Moves.enter-sound L O val C s (op-of k p) lt out (st .staged .1) (Moves.take-sound L O val B s f rest p e sound))
-          (λ t ne. calm-trans L (calm t) (calm-trans L (Moves.take-calm L O val B s f rest p e sound t ne) (Moves.enter-calm L O val C s (op-of k p) (sound .fit) lt out t ne)))
-          (stands k (Moves.enter-in L O val C s (op-of k p) (sound .fit) lt out) (status-begun s (op-of k p) (B .seen)))
-          (Steps.back-trans L O val A B D back
-            (Steps.back-put L O val B (D .memory) f (freshOf s) (D .chain) (D .line) (D .seen) (λ z. omega arith)
-              (λ c ne. put-apart (B .memory .mark) f false c ne) (λ c ne. put-apart (B .memory .item) f p c ne)))
-          (λ c e m z. absurd z)
+        (Moves.enter-sound L O val C s (op-of k p) lt out (st .staged .1) (Moves.take-sound L O val B s f rest p e sound))
+        (λ t ne. calm-trans L (calm t) (calm-trans L (Moves.take-calm L O val B s f rest p e sound t ne) (Moves.enter-calm L O val C s (op-of k p) (sound .fit) lt out t ne)))
+        (stands k (Moves.enter-in L O val C s (op-of k p) (sound .fit) lt out) (status-begun s (op-of k p) (B .seen)))
+        (Steps.back-trans L O val A B D back
+        (Steps.back-put L O val B (D .memory) f (freshOf s) (D .chain) (D .line) (D .seen) (λ z. omega arith)
+        (λ c ne. put-apart (B .memory .mark) f false c ne) (λ c ne. put-apart (B .memory .item) f p c ne)))
+        (λ c e m z. absurd z)
       where
         C : Scene State
         C = Moves.takeScene L O val B s f rest p
@@ -93,18 +93,18 @@ module _ {State : Type 0} {M : Model State} {sessions cells : ℕ} (L : Rules M 
         owned c q (inr ne) = absurd (st .owns c (sym (put-apart (B .place) f (freshOf s) c (λ z. ne (sym z))) ∙ q))
 
         stands : (k : Adding) → L .meaning (after-enter M (B .memory .reclaimer) s) .inside s → status s (begins s (op-of k p) ∷ B .seen) ≡ under (op-of k p)
-          → Stands L O val (Moves.enterScene L O val C s (op-of k p)) s (first-stage k p f)
+            → Stands L O val (Moves.enterScene L O val C s (op-of k p)) s (first-stage k p f)
         stands pushing in₁ u =
             let y : put (B .memory .item) f p f ≡ p = put-here (B .memory .item) f p in
-            record
-              { staged = (record { inside = in₁; under = u ∙ ap (λ x. under (Push x)) (sym y) }, put-here (B .place) f (freshOf s))
-              ; owns = λ c q. owned c q (cases-eq f c)
-              }
+            record {
+              staged = (record { inside = in₁; under = u ∙ ap (λ x. under (Push x)) (sym y) }, put-here (B .place) f (freshOf s));
+              owns = λ c q. owned c q (cases-eq f c);
+            }
         stands inserting in₁ u =
-            record
-              { staged = record { inside = in₁; is = u; fresh = (put-here (B .place) f (freshOf s), put-here (B .memory .item) f p) }
-              ; owns = λ c q. owned c q (cases-eq f c)
-              }
+            record {
+              staged = record { inside = in₁; is = u; fresh = (put-here (B .place) f (freshOf s), put-here (B .memory .item) f p) };
+              owns = λ c q. owned c q (cases-eq f c);
+            }
 
     give-back : (c : ℕ) → Steps.Back L O val A (More.giveScene L O val A c)
     give-back c =
@@ -112,30 +112,30 @@ module _ {State : Type 0} {M : Model State} {sessions cells : ℕ} (L : Rules M 
         Steps.back-put L O val A (B .memory) c (freeAt (length (b .memory .free))) (B .chain) (B .line) (B .seen) (λ z. omega arith) (λ d ne. refl) (λ d ne. refl)
 
     refetch : (k : Adding) (p : ℕ) → Stands L O val A s Outside → b .memory .free ≡ [] → (o : Option ℕ) → M .picks (b .memory .reclaimer) ≡ o
-      → Inv L O val (settled b s (refetched M (b .memory) s k p o))
+        → Inv L O val (settled b s (refetched M (b .memory) s k p o))
     refetch k p st e None a =
         Steps.land L O val b i s lt Outside eq (More.noneScene L O val A) Outside (More.none-sound L O val A a (i .sound)) (λ t ne. More.none-calm L O val A (i .sound .fit) a t)
-          (stands-calm L (More.none-calm L O val A (i .sound .fit) a s) O val Outside st) (λ c e m. (e, m, refl)) (λ c e m z. z)
+        (stands-calm L (More.none-calm L O val A (i .sound .fit) a s) O val Outside st) (λ c e m. (e, m, refl)) (λ c e m z. z)
     refetch k p st e (Some c) a =
         taking (More.giveScene L O val A c) c [] k p (ap (λ x. c ∷ x) e) (More.give-sound L O val A c a (i .sound))
-          (λ t. More.give-calm L O val A c a (i .sound) t)
-          (stands-calm L (More.give-calm L O val A c a (i .sound) s) O val Outside st)
-          (give-back c)
+        (λ t. More.give-calm L O val A c a (i .sound) t)
+        (stands-calm L (More.give-calm L O val A c a (i .sound) s) O val Outside st)
+        (give-back c)
 
     fetch : (k : Adding) (p : ℕ) → Stands L O val A s Outside → (l : List ℕ) → b .memory .free ≡ l → Inv L O val (settled b s (fetched M (b .memory) s k p l))
     fetch k p st [] e = refetch k p st e (M .picks (b .memory .reclaimer)) refl
     fetch k p st (f ∷ rest) e = taking A f rest k p e (i .sound) (λ t. calm-refl L t A) st (λ c e m. (e, m, refl))
 
     plainly : (op : Op) (g : Stage) → Stands L O val A s Outside
-      → (L .meaning (after-enter M (b .memory .reclaimer) s) .inside s → status s (begins s op ∷ b .seen) ≡ under op → Staged L O val (Moves.enterScene L O val A s op) s g)
-      → Inv L O val (settled b s (on M (entered M (b .memory) s) g (begins s op ∷ [])))
+        → (L .meaning (after-enter M (b .memory .reclaimer) s) .inside s → status s (begins s op ∷ b .seen) ≡ under op → Staged L O val (Moves.enterScene L O val A s op) s g)
+        → Inv L O val (settled b s (on M (entered M (b .memory) s) g (begins s op ∷ [])))
     plainly op g st f =
         let out = st .staged .0 in
         Steps.land L O val b i s lt Outside eq (Moves.enterScene L O val A s op) g
-          (Moves.enter-sound L O val A s op lt out (st .staged .1) (i .sound))
-          (Moves.enter-calm L O val A s op (i .sound .fit) lt out)
-          (record { staged = f (Moves.enter-in L O val A s op (i .sound .fit) lt out) (status-begun s op (b .seen)); owns = λ c e. absurd (st .owns c e) })
-          (λ c e m. (e, m, refl)) (λ c e m z. absurd z)
+        (Moves.enter-sound L O val A s op lt out (st .staged .1) (i .sound))
+        (Moves.enter-calm L O val A s op (i .sound .fit) lt out)
+        (record { staged = f (Moves.enter-in L O val A s op (i .sound .fit) lt out) (status-begun s op (b .seen)); owns = λ c e. absurd (st .owns c e) })
+        (λ c e m. (e, m, refl)) (λ c e m z. absurd z)
 
     began : (op : Op) → Stands L O val A s Outside → Inv L O val (settled b s (beginning M (b .memory) s op))
     began (Push p) st = fetch pushing p st (b .memory .free) refl
@@ -170,18 +170,18 @@ module _ {State : Type 0} {M : Model State} {sessions cells : ℕ} (L : Rules M 
   after b r = record { memory = r .memory; stage = b .stage; seen = r .seen ++ b .seen }
 
   all : (b : History State) (i : Inv L O val b) (B : Scene State) → Sound L O val B
-    → ((t : ℕ) → Calm L t (sceneOf L O val b (i .place) (i .chain) (i .line)) B)
-    → Steps.Back L O val (sceneOf L O val b (i .place) (i .chain) (i .line)) B
-    → Inv L O val (record { memory = B .memory; stage = b .stage; seen = B .seen })
+      → ((t : ℕ) → Calm L t (sceneOf L O val b (i .place) (i .chain) (i .line)) B)
+      → Steps.Back L O val (sceneOf L O val b (i .place) (i .chain) (i .line)) B
+      → Inv L O val (record { memory = B .memory; stage = b .stage; seen = B .seen })
   all b i B sound calm back =
-      record
-        { place = B .place
-        ; chain = B .chain
-        ; line = B .line
-        ; sound = sound
-        ; each = λ t. stands-calm L (calm t) O val (b .stage t) (i .each t)
-        ; debts = λ c e m. debt c e m
-        }
+      record {
+        place = B .place;
+        chain = B .chain;
+        line = B .line;
+        sound = sound;
+        each = λ t. stands-calm L (calm t) O val (b .stage t) (i .each t);
+        debts = λ c e m. debt c e m;
+      }
     where
       debt : (c : ℕ) → B .place c ≡ inList → B .memory .mark c ≡ true → (t : ℕ) × Chases L O val (b .stage t) (key L O val B c)
       debt c e m =
@@ -199,37 +199,37 @@ module _ {State : Type 0} {M : Model State} {sessions cells : ℕ} (L : Rules M 
 
       with-free : ℕ → List ℕ → Memory State
       with-free c x =
-          record
-            { reclaimer = M .collects (b .memory .reclaimer)
-            ; head = b .memory .head
-            ; front = b .memory .front
-            ; free = x
-            ; link = b .memory .link
-            ; mark = b .memory .mark
-            ; item = b .memory .item
-            }
+          record {
+            reclaimer = M .collects (b .memory .reclaimer);
+            head = b .memory .head;
+            front = b .memory .front;
+            free = x;
+            link = b .memory .link;
+            mark = b .memory .mark;
+            item = b .memory .item;
+          }
 
       go : ((x : History State) → Inv L O val x → Inv L O val (after x (tidying M k (x .memory)))) → (o : Option ℕ)
-        → M .picks (b .memory .reclaimer) ≡ o
-        → Inv L O val (after b (stop M o (record { memory = collected M (b .memory); seen = []; given = 0 }) (gone M (tidying M k (collected-as M o (b .memory))) o)))
+          → M .picks (b .memory .reclaimer) ≡ o
+          → Inv L O val (after b (stop M o (record { memory = collected M (b .memory); seen = []; given = 0 }) (gone M (tidying M k (collected-as M o (b .memory))) o)))
       go ih None a = all b i (More.noneScene L O val Z) (More.none-sound L O val Z a (i .sound)) (More.none-calm L O val Z (i .sound .fit) a) (λ c e m. (e, m, refl))
       go ih (Some c) a =
           let B = More.giveScene L O val Z c in
           let was = ap kind (More.was L O val Z c a (i .sound)) in
           let room = Free.shelves L O val Z c (i .sound) (More.give-in L O val Z c a (i .sound)) (λ z. omega arith) in
           let r = ih (record { memory = B .memory; stage = b .stage; seen = B .seen })
-                (all b i B (More.give-sound L O val Z c a (i .sound)) (More.give-calm L O val Z c a (i .sound))
-                  (Steps.back-put L O val Z (B .memory) c (freeAt (length (b .memory .free))) (B .chain) (B .line) (B .seen) (λ z. omega arith) (λ d ne. refl) (λ d ne. refl))) in
-          let P₁ : List ℕ → Type 0 = λ x. Inv L O val (record
-                { memory = tidying M k (with-free c x) .memory
-                ; stage = b .stage
-                ; seen = tidying M k (with-free c x) .seen ++ gives c ∷ b .seen
-                }) in
-          let P₂ : Trace → Type 0 = λ x. Inv L O val (record
-                { memory = tidying M k (with-free c (shelve c (b .memory .free))) .memory
-                ; stage = b .stage
-                ; seen = x
-                }) in
+          (all b i B (More.give-sound L O val Z c a (i .sound)) (More.give-calm L O val Z c a (i .sound))
+          (Steps.back-put L O val Z (B .memory) c (freeAt (length (b .memory .free))) (B .chain) (B .line) (B .seen) (λ z. omega arith) (λ d ne. refl) (λ d ne. refl))) in
+          let P₁ : List ℕ → Type 0 = λ x. Inv L O val (record {
+            memory = tidying M k (with-free c x) .memory;
+            stage = b .stage;
+            seen = tidying M k (with-free c x) .seen ++ gives c ∷ b .seen;
+          }) in
+          let P₂ : Trace → Type 0 = λ x. Inv L O val (record {
+            memory = tidying M k (with-free c (shelve c (b .memory .free))) .memory;
+            stage = b .stage;
+            seen = x;
+          }) in
           subst P₂ (sym (append-assoc (tidying M k (with-free c (shelve c (b .memory .free))) .seen) (gives c ∷ []) (b .seen))) (subst P₁ (sym room) r)
 
   -- the machine with what has been seen
@@ -247,24 +247,24 @@ module _ {State : Type 0} {M : Model State} {sessions cells : ℕ} (L : Rules M 
   grew m h t i = subst (λ x. Inv L O val (history m x)) (sym (grown h t)) i
 
   did : (m : Machine State) (h : List Event) → m .sessions ≡ sessions → Inv L O val (history m (reverse h)) → (t : Bool) (r : Result Word Reason) → InRange (m .sessions) r
-    → Inv L O val (history (cond t (answering M cmp₁ m r) (refusing M m reason.OtherItems) .after) (reverse (h ++ cond t (answering M cmp₁ m r) (refusing M m reason.OtherItems) .seen)))
+      → Inv L O val (history (cond t (answering M cmp₁ m r) (refusing M m reason.OtherItems) .after) (reverse (h ++ cond t (answering M cmp₁ m r) (refusing M m reason.OtherItems) .seen)))
   unfolding moving
   did m h e i false r g = grew m h [] i
   did m h e i true (Err why) g = grew m h [] i
   did m h e i true (Ok Tidy) g =
       let r = tidying M (suc (M .count (m .memory .reclaimer))) (m .memory) in
       grew (record { memory = r .memory; stage = m .stage; sessions = m .sessions; items = m .items }) h (r .seen)
-        (tidies (suc (M .count (m .memory .reclaimer))) (history m (reverse h)) i)
+      (tidies (suc (M .count (m .memory .reclaimer))) (history m (reverse h)) i)
   did m h e i true (Ok (Of s Step)) g =
       let o = stepping M cmp₁ (m .memory) s (m .stage s) in
       grew (record { memory = o .memory; stage = put (m .stage) s (o .stage); sessions = m .sessions; items = m .items }) h (o .seen)
-        (Steps.stepped L O val (history m (reverse h)) i s (subst (λ x. s < x) e g) (m .stage s) refl (i .each s))
+      (Steps.stepped L O val (history m (reverse h)) i s (subst (λ x. s < x) e g) (m .stage s) refl (i .each s))
   did m h e i true (Ok (Of s (Begin op))) g =
       let o = opening M (m .memory) s op (m .stage s) in
       grew (record { memory = o .memory; stage = put (m .stage) s (o .stage); sessions = m .sessions; items = m .items }) h (o .seen)
-        (openings (history m (reverse h)) i s (subst (λ x. s < x) e g) op (m .stage s) refl (i .each s))
+      (openings (history m (reverse h)) i s (subst (λ x. s < x) e g) op (m .stage s) refl (i .each s))
 
   pub worded-inv : (m : Machine State) (h : List Event) (n w : ℕ) → m .sessions ≡ sessions → Inv L O val (history m (reverse h))
-    → Inv L O val (history (worded M cmp₁ n m w .after) (reverse (h ++ worded M cmp₁ n m w .seen)))
+      → Inv L O val (history (worded M cmp₁ n m w .after) (reverse (h ++ worded M cmp₁ n m w .seen)))
   unfolding worded
   worded-inv m h n w e i = did m h e i (eqb n (m .items)) (parsed w (m .sessions) (m .items)) (parsed-range w (m .sessions) (m .items))

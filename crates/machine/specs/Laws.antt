@@ -57,7 +57,7 @@ pub record Last (s : ℕ) (e : Event) (h : History) : Type 0 where
 -- each operation begins outside any other, is decided at most once before it completes, and completes with the answer decided
 pub record One-decision (h : History) : Type 0 where
   pub begun : (before after : History) (s : ℕ) (op : Op) → h ≡ before ++ begins s op ∷ after
-    → Silent s before ⊎ ((a : Answer) × Last s (completes s a) before)
+      → Silent s before ⊎ ((a : Answer) × Last s (completes s a) before)
   pub decided : (before after : History) (s : ℕ) (a : Answer) → h ≡ before ++ decides s a ∷ after → (op : Op) × Last s (begins s op) before
   pub completed : (before after : History) (s : ℕ) (a : Answer) → h ≡ before ++ completes s a ∷ after → Last s (decides s a) before
 
@@ -93,8 +93,8 @@ pub record Promise {State : Type 0} (M : Model State) {V : Type 0} (cmp : V → 
   pub serial-order : serial-answers cmp val empty (decided-ops h) ≡ decided-answers h
   -- room: with nobody inside, a sound insert or push as the next word finds no cell exactly when every cell has a member
   pub room : Nobody-inside h → (w s p : ℕ) (k : Adding) → parsed w (m .sessions) (m .items) ≡ Ok (Of s (Begin (op-of k p)))
-    → (worded M (λ a b. cmp (val a) (val b)) n m w .answer ≡ refused reason.NoCell)
-    ↔ (members (serial-after cmp val empty (decided-ops h)) ≡ M .cells (m .memory .reclaimer))
+      → (worded M (λ a b. cmp (val a) (val b)) n m w .answer ≡ refused reason.NoCell)
+      ↔ (members (serial-after cmp val empty (decided-ops h)) ≡ M .cells (m .memory .reclaimer))
 
 -- a reclaimer that a board may be opened over
 pub record Openable {State : Type 0} (M : Model State) (x : State) : Type 0 where
@@ -126,5 +126,5 @@ abbrev pub Kept-over-runs : {State I V : Type 0} → Model State → (V → V �
 Kept-over-runs {State} {I} M cmp value =
     (items : List I) (x : State) (ws : List ℕ) → Openable M x
     → Promise M (with-none cmp) (value-at value items) (length items)
-        (ran M (compared cmp value items) (length items) (opened M x (length items)) ws .after)
-        (ran M (compared cmp value items) (length items) (opened M x (length items)) ws .seen)
+    (ran M (compared cmp value items) (length items) (opened M x (length items)) ws .after)
+    (ran M (compared cmp value items) (length items) (opened M x (length items)) ws .seen)

@@ -382,8 +382,8 @@ module _ {State : Type 0} (M : Model State) where
   tidying zero h = record { memory = h; seen = []; given = 0 }
   tidying (suc k) h =
       stop (M .picks (h .reclaimer))
-        (record { memory = collected h; seen = []; given = 0 })
-        (gone (tidying k (collected-as (M .picks (h .reclaimer)) h)) (M .picks (h .reclaimer)))
+      (record { memory = collected h; seen = []; given = 0 })
+      (gone (tidying k (collected-as (M .picks (h .reclaimer)) h)) (M .picks (h .reclaimer)))
 
   -- once more than cells are held, which is often enough
   abbrev pub tidyings : Memory State → Tidied State
@@ -392,19 +392,19 @@ module _ {State : Type 0} (M : Model State) where
   -- words
   abbrev pub landed : Machine State → ℕ → Outcome State → Did State
   landed m s o =
-      record
-        { after = record { memory = o .memory; stage = put (m .stage) s (o .stage); sessions = m .sessions; items = m .items }
-        ; seen = reverse (o .seen)
-        ; answer = o .answer
-        }
+      record {
+        after = record { memory = o .memory; stage = put (m .stage) s (o .stage); sessions = m .sessions; items = m .items };
+        seen = reverse (o .seen);
+        answer = o .answer;
+      }
 
   abbrev pub tidily : Machine State → Tidied State → Did State
   tidily m r =
-      record
-        { after = record { memory = r .memory; stage = m .stage; sessions = m .sessions; items = m .items }
-        ; seen = reverse (r .seen)
-        ; answer = tidied (r .given)
-        }
+      record {
+        after = record { memory = r .memory; stage = m .stage; sessions = m .sessions; items = m .items };
+        seen = reverse (r .seen);
+        answer = tidied (r .given);
+      }
 
   abbrev pub refusing : Machine State → Reason → Did State
   refusing m why = record { after = m; seen = []; answer = refused why }
@@ -430,9 +430,9 @@ module _ {State : Type 0} (M : Model State) where
   -- a new board
   abbrev pub opened : State → ℕ → Machine State
   opened x items =
-      record
-        { memory = as-memory x None None (counting 0 (M .cells x)) (λ c. None) (λ c. false) (λ c. 0)
-        ; stage = λ s. Outside
-        ; sessions = M .sessions x
-        ; items = items
-        }
+      record {
+        memory = as-memory x None None (counting 0 (M .cells x)) (λ c. None) (λ c. false) (λ c. 0);
+        stage = λ s. Outside;
+        sessions = M .sessions x;
+        items = items;
+      }

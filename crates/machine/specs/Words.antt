@@ -35,8 +35,8 @@ for-session spare s sessions k = cond (eqb spare 0) (cond (ltb s sessions) (Ok (
 abbrev pub for-item : ℕ → ℕ → ℕ → ℕ → ℕ → Op → Result Word Reason
 for-item spare s sessions p items op =
     cond (eqb spare 0)
-      (cond (ltb s sessions) (cond (ltb p items) (Ok (Of s (Begin op))) (Err reason.NoPlace)) (Err reason.NoSession))
-      (Err reason.SpareBits)
+    (cond (ltb s sessions) (cond (ltb p items) (Ok (Of s (Begin op))) (Err reason.NoPlace)) (Err reason.NoSession))
+    (Err reason.SpareBits)
 
 abbrev for-all : ℕ → Result Word Reason
 for-all spare = cond (eqb spare 0) (Ok Tidy) (Err reason.SpareBits)
@@ -44,12 +44,12 @@ for-all spare = cond (eqb spare 0) (Ok Tidy) (Err reason.SpareBits)
 abbrev pub parsed-kind : ℕ → ℕ → ℕ → ℕ → Result Word Reason
 parsed-kind n w sessions items =
     cond (eqb n 0) (for-session (spare-plain w) (session-of w) sessions Step)
-      (cond (eqb n 1) (for-item (spare-item w) (session-of w) sessions (place-of w) items (Insert (place-of w)))
-        (cond (eqb n 2) (for-item (spare-item w) (session-of w) sessions (place-of w) items (Delete (place-of w)))
-          (cond (eqb n 3) (for-item (spare-item w) (session-of w) sessions (place-of w) items (Contains (place-of w)))
-            (cond (eqb n 4) (for-item (spare-item w) (session-of w) sessions (place-of w) items (Push (place-of w)))
-              (cond (eqb n 5) (for-session (spare-plain w) (session-of w) sessions (Begin Pop))
-                (cond (eqb n 6) (for-all (spare-tidy w)) (Err reason.Kind)))))))
+    (cond (eqb n 1) (for-item (spare-item w) (session-of w) sessions (place-of w) items (Insert (place-of w)))
+    (cond (eqb n 2) (for-item (spare-item w) (session-of w) sessions (place-of w) items (Delete (place-of w)))
+    (cond (eqb n 3) (for-item (spare-item w) (session-of w) sessions (place-of w) items (Contains (place-of w)))
+    (cond (eqb n 4) (for-item (spare-item w) (session-of w) sessions (place-of w) items (Push (place-of w)))
+    (cond (eqb n 5) (for-session (spare-plain w) (session-of w) sessions (Begin Pop))
+    (cond (eqb n 6) (for-all (spare-tidy w)) (Err reason.Kind)))))))
 
 unfoldable pub parsed : ℕ → ℕ → ℕ → Result Word Reason
 parsed w sessions items = parsed-kind (w / 2 ^ 29) w sessions items

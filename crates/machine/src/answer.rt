@@ -58,30 +58,45 @@ impl Answer {
     pub fn under_way() -> Answer
         ensures { λ r. ⌜ r ≡ under-way ⌝ }
     {
-        Answer { kind: AnswerKind::UnderWay, value: 0 }
+        Answer {
+            kind: AnswerKind::UnderWay,
+            value: 0,
+        }
     }
 
     pub fn yes(place: u16) -> Answer
         ensures { λ r. ⌜ r ≡ yes place ⌝ }
     {
-        Answer { kind: AnswerKind::Yes, value: place }
+        Answer {
+            kind: AnswerKind::Yes,
+            value: place,
+        }
     }
 
     pub fn no() -> Answer
         ensures { λ r. ⌜ r ≡ no ⌝ }
     {
-        Answer { kind: AnswerKind::No, value: 0 }
+        Answer {
+            kind: AnswerKind::No,
+            value: 0,
+        }
     }
 
     pub fn tidied(given: u16) -> Answer
         ensures { λ r. ⌜ r ≡ tidied given ⌝ }
     {
-        Answer { kind: AnswerKind::Tidied, value: given }
+        Answer {
+            kind: AnswerKind::Tidied,
+            value: given,
+        }
     }
 
     pub fn refused(why: Reason) -> Answer
         ensures { λ r. ⌜ r ≡ refused why ⌝ }
     {
-        Answer { kind: AnswerKind::Refused, value: why.code() }
+        Answer {
+            kind: AnswerKind::Refused,
+            value: why.code(),
+        }
     }
 }

@@ -52,7 +52,14 @@ fn for_session(spare: u32, session: u8, sessions: u8, kind: Kind) -> Result<Word
 }
 
 // The same with a place that has to be there.
-fn for_item(spare: u32, session: u8, sessions: u8, place: u16, items: u16, op: Op) -> Result<Word, Reason>
+fn for_item(
+    spare: u32,
+    session: u8,
+    sessions: u8,
+    place: u16,
+    items: u16,
+    op: Op,
+) -> Result<Word, Reason>
     ensures { λ r. ⌜ r ≡ for-item spare session sessions place items op ⌝ }
 {
     if spare != 0 {
@@ -64,7 +71,10 @@ fn for_item(spare: u32, session: u8, sessions: u8, place: u16, items: u16, op: O
     if place >= items {
         return Err(Reason::NoPlace);
     }
-    Ok(Word::Of { session, kind: Kind::Begin(op) })
+    Ok(Word::Of {
+        session,
+        kind: Kind::Begin(op),
+    })
 }
 
 fn spare_plain(w: u32) -> u32
@@ -93,10 +103,38 @@ impl Word {
         let place = place_of(w);
         match w >> 29 {
             0 => for_session(spare_plain(w), session, sessions, Kind::Step),
-            1 => for_item(spare_item(w), session, sessions, place, items, Op::Insert { place }),
-            2 => for_item(spare_item(w), session, sessions, place, items, Op::Delete { place }),
-            3 => for_item(spare_item(w), session, sessions, place, items, Op::Contains { place }),
-            4 => for_item(spare_item(w), session, sessions, place, items, Op::Push { place }),
+            1 => for_item(
+                spare_item(w),
+                session,
+                sessions,
+                place,
+                items,
+                Op::Insert { place },
+            ),
+            2 => for_item(
+                spare_item(w),
+                session,
+                sessions,
+                place,
+                items,
+                Op::Delete { place },
+            ),
+            3 => for_item(
+                spare_item(w),
+                session,
+                sessions,
+                place,
+                items,
+                Op::Contains { place },
+            ),
+            4 => for_item(
+                spare_item(w),
+                session,
+                sessions,
+                place,
+                items,
+                Op::Push { place },
+            ),
             5 => for_session(spare_plain(w), session, sessions, Kind::Begin(Op::Pop)),
             6 => {
                 if spare_tidy(w) != 0 {

@@ -35,32 +35,32 @@ module _ {S : Type 0} (M : Model S) (law : Lawful M) where
 
   -- one cell given back
   pub turn : (m next : Memory S) (c held : ℕ) (all : Memory S) (n : ℕ) → M .good (m .reclaimer) → M .picks (m .reclaimer) ≡ Some c
-    → next ≡ (collected-as M (Some c) m)
-    → (left-over M m .memory ≡ all) × (left-over M m .given + (held - M .count (m .reclaimer)) ≡ n) × (M .count (m .reclaimer) ≤ held)
-    → (left-over M next .memory ≡ all) × (left-over M next .given + (held - M .count (next .reclaimer)) ≡ n) × (M .count (next .reclaimer) ≤ held)
+      → next ≡ (collected-as M (Some c) m)
+      → (left-over M m .memory ≡ all) × (left-over M m .given + (held - M .count (m .reclaimer)) ≡ n) × (M .count (m .reclaimer) ≤ held)
+      → (left-over M next .memory ≡ all) × (left-over M next .given + (held - M .count (next .reclaimer)) ≡ n) × (M .count (next .reclaimer) ≤ held)
   turn m next c held all n g e is (a, b, l) =
       let f = falls (m .reclaimer) c g e in
       let h = collected-as M (Some c) m in
       let k : suc (M .count (h .reclaimer)) ≡ M .count (m .reclaimer) = omega arith in
       let t : left-over M m ≡ gone M (left-over M (h)) (Some c) =
-            more (M .count (m .reclaimer)) c m e ∙ ap (λ q. gone M (tidying M q h) (Some c)) (sym k) in
+      more (M .count (m .reclaimer)) c m e ∙ ap (λ q. gone M (tidying M q h) (Some c)) (sym k) in
       let b₁ = ap (λ r. r .given) t in
-      rw is
-        ( ap (λ r. r .memory) (sym t) ∙ a
-        , omega (arith, b, b₁, l, k)
-        , omega (arith, l, k)
-        )
+      rw is (
+        ap (λ r. r .memory) (sym t) ∙ a,
+        omega (arith, b, b₁, l, k),
+        omega (arith, l, k),
+      )
 
   pub ends : (m next : Memory S) (held : ℕ) (all : Memory S) (n : ℕ) → M .good (m .reclaimer) → M .picks (m .reclaimer) ≡ None
-    → next ≡ (collected M m)
-    → (left-over M m .memory ≡ all) × (left-over M m .given + (held - M .count (m .reclaimer)) ≡ n) × (M .count (m .reclaimer) ≤ held)
-    → (next ≡ all) × (held - M .count (next .reclaimer) ≡ n) × (M .count (next .reclaimer) ≤ held)
+      → next ≡ (collected M m)
+      → (left-over M m .memory ≡ all) × (left-over M m .given + (held - M .count (m .reclaimer)) ≡ n) × (M .count (m .reclaimer) ≤ held)
+      → (next ≡ all) × (held - M .count (next .reclaimer) ≡ n) × (M .count (next .reclaimer) ≤ held)
   ends m next held all n g e is (a, b, l) =
       let f = stays (m .reclaimer) g e in
       let t = end (M .count (m .reclaimer)) m e in
       let b₁ = ap (λ r. r .given) t in
-      rw is
-        ( sym (ap (λ r. r .memory) t) ∙ a
-        , omega (arith, b, b₁, f)
-        , omega (arith, l, f)
-        )
+      rw is (
+        sym (ap (λ r. r .memory) t) ∙ a,
+        omega (arith, b, b₁, f),
+        omega (arith, l, f),
+      )

@@ -59,9 +59,9 @@ unfolding counting
 counting-at k n m e = ap (counting k) e
 
 pub counting-more : (xs ys : List ℕ) (c cells : ℕ) → 0 < c → c ≤ cells → ys ≡ xs ++ (c - 1) ∷ [] → reverse xs ≡ counting c (cells - c)
-  → reverse ys ≡ counting (c - 1) (cells - (c - 1))
+    → reverse ys ≡ counting (c - 1) (cells - (c - 1))
 counting-more xs ys c cells h l e inv =
     let s : suc (c - 1) ≡ c = omega arith in
     ap reverse e
     ∙ (reverse-append xs ((c - 1) ∷ [])
-      ∙ (ap (λ r. (c - 1) ∷ r) (inv ∙ ap (λ k. counting k (cells - c)) (sym s)) ∙ sym (counting-at (c - 1) (cells - (c - 1)) (cells - c) (omega arith))))
+    ∙ (ap (λ r. (c - 1) ∷ r) (inv ∙ ap (λ k. counting k (cells - c)) (sym s)) ∙ sym (counting-at (c - 1) (cells - (c - 1)) (cells - c) (omega arith))))

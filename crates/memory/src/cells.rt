@@ -67,7 +67,13 @@ impl<R: Reclaimer> Memory<R> {
     pub fn fill(&mut self, c: u8, place: u16)
         ensures { λ _. ⌜ memory-of state (now (self .exit)) ≡ taken model (memory-of state (now (self .entry))) c (memory-of state (now (self .entry)) .free) place ⌝ }
     {
-        self.cells[c as usize] = Cell { place, link: Link { marked: false, to: None } };
+        self.cells[c as usize] = Cell {
+            place,
+            link: Link {
+                marked: false,
+                to: None,
+            },
+        };
     }
 
     // Whether the link of prev is unmarked and to this cell or none.

@@ -5,8 +5,11 @@ mod cells;
 mod free;
 mod fresh;
 mod memory;
+mod moves;
 mod new;
 mod tidy;
 
 pub use cells::same_cell;
 pub use memory::Memory;
+pub use moves::complete;
+pub use moves::go_on;

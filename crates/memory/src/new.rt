@@ -17,7 +17,19 @@ impl<R: Reclaimer> Memory<R> {
         let Ok(free) = FreeStack::all(heap, cells) else {
             return Err(reclaimer);
         };
-        let blank = Cell { place: 0, link: Link { marked: false, to: None } };
-        Ok(Memory { cells: [blank; 256], head: None, front: None, free, reclaimer })
+        let blank = Cell {
+            place: 0,
+            link: Link {
+                marked: false,
+                to: None,
+            },
+        };
+        Ok(Memory {
+            cells: [blank; 256],
+            head: None,
+            front: None,
+            free,
+            reclaimer,
+        })
     }
 }

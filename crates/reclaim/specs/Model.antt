@@ -46,10 +46,10 @@ leave-answer m st s = cond (ltb s (m .sessions st)) (cond (m .inside st s) (Ok t
 abbrev pub protect-answer : {S : Type 0} → Model S → S → ℕ → ℕ → ℕ → Result (Unit {0}) Refusal
 protect-answer m st s i c =
     cond (ltb s (m .sessions st))
-      (cond (m .inside st s)
-        (cond (ltb i 3) (cond (ltb c (m .cells st)) (Ok tt) (Err NoCell)) (Err NoSlot))
-        (Err NotInside))
-      (Err NoSession)
+    (cond (m .inside st s)
+    (cond (ltb i 3) (cond (ltb c (m .cells st)) (Ok tt) (Err NoCell)) (Err NoSlot))
+    (Err NotInside))
+    (Err NoSession)
 
 -- a refused retire hands the debt back
 abbrev unpaid : Refusal → Unlinked → Unpaid
@@ -73,8 +73,8 @@ after-leave m st s = cond (ltb s (m .sessions st)) (cond (m .inside st s) (m .le
 abbrev pub after-protect : {S : Type 0} → Model S → S → ℕ → ℕ → ℕ → S
 after-protect m st s i c =
     cond (ltb s (m .sessions st))
-      (cond (m .inside st s) (cond (ltb i 3) (cond (ltb c (m .cells st)) (m .protects st s i c) st) st) st)
-      st
+    (cond (m .inside st s) (cond (ltb i 3) (cond (ltb c (m .cells st)) (m .protects st s i c) st) st) st)
+    st
 
 abbrev pub after-retire : {S : Type 0} → Model S → S → ℕ → S
 after-retire m st c = cond (ltb c (m .cells st)) (cond (m .held st c) st (m .retires st c)) st

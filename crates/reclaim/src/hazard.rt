@@ -11,9 +11,9 @@ ghost use Rattle.reclaim.specs.Made.{Made};
 use crate::reclaimer::Reclaimer;
 use crate::refusal::Refusal;
 use crate::refusal::Unmade;
+use crate::row::Row;
 use crate::token::Unlinked;
 use crate::token::Unpaid;
-use crate::row::Row;
 use std::alloc::Global;
 use table::HazardPointers;
 
@@ -28,7 +28,13 @@ impl HazardPointers {
         match Vec::with_capacity(heap, cells as usize) {
             Ok(held) => {
                 let none = Row { slots: [None; 3] };
-                Ok(HazardPointers { sessions, cells, inside: [false; 8], rows: [none; 8], held })
+                Ok(HazardPointers {
+                    sessions,
+                    cells,
+                    inside: [false; 8],
+                    rows: [none; 8],
+                    held,
+                })
             }
             Err(_) => Err(Unmade::Memory),
         }
@@ -85,10 +91,16 @@ pub impl Reclaimer for HazardPointers as HazardReclaimer {
     fn retire(&mut self, debt: Unlinked) -> Result<(), Unpaid> {
         let cell = debt.number();
         if u16::from(cell) >= self.cells {
-            return Err(Unpaid { why: Refusal::NoCell, debt });
+            return Err(Unpaid {
+                why: Refusal::NoCell,
+                debt,
+            });
         }
         if self.is_held(cell) {
-            return Err(Unpaid { why: Refusal::AlreadyHeld, debt });
+            return Err(Unpaid {
+                why: Refusal::AlreadyHeld,
+                debt,
+            });
         }
         self.held.push_reserved(debt.paid());
         Ok(())

@@ -48,7 +48,12 @@ impl QuiescentStates {
             return Err(Unmade::Sizes);
         }
         match Vec::with_capacity(heap, cells as usize) {
-            Ok(held) => Ok(QuiescentStates { sessions, cells, inside: [false; 8], held }),
+            Ok(held) => Ok(QuiescentStates {
+                sessions,
+                cells,
+                inside: [false; 8],
+                held,
+            }),
             Err(_) => Err(Unmade::Memory),
         }
     }
@@ -116,13 +121,22 @@ pub impl Reclaimer for QuiescentStates as QuiescentReclaimer {
     fn retire(&mut self, debt: Unlinked) -> Result<(), Unpaid> {
         let cell = debt.number();
         if u16::from(cell) >= self.cells {
-            return Err(Unpaid { why: Refusal::NoCell, debt });
+            return Err(Unpaid {
+                why: Refusal::NoCell,
+                debt,
+            });
         }
         if self.is_held(cell) {
-            return Err(Unpaid { why: Refusal::AlreadyHeld, debt });
+            return Err(Unpaid {
+                why: Refusal::AlreadyHeld,
+                debt,
+            });
         }
         let users = self.inside;
-        self.held.push_reserved(Waiting { cell: debt.paid(), users });
+        self.held.push_reserved(Waiting {
+            cell: debt.paid(),
+            users,
+        });
         Ok(())
     }
 

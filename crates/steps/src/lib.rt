@@ -1,13 +1,5 @@
-// The steps of push, pop, insert, delete and contains over the shared memory, one function each.
-// A step reads the memory, changes it in place, and says at which stage its session goes on and what it answers.
+// What a word asks of one session: the begin of an operation, or the step at which the session stands.
 mod begin;
-mod changes;
 mod dispatch;
-mod ends;
-mod moved;
-mod places;
-mod search;
-mod stack;
 
 pub use dispatch::act;
-pub use moved::Moved;

@@ -11,7 +11,7 @@ pub returns-in-Ok : need.returns-in-Ok
 returns-in-Ok g c =
     let o = c .in-Ok .ensures tt in
     played (g .R·Reclaimer .model) (g .R·Reclaimer .state) (g .T·ItemOrder .order) (g .T·ItemOrder .value) (c .args .reclaimer) (c .args .items .now) (c .args .words .now)
-      (c .args .answers .now) _ (view (g .R·Reclaimer .state) (c .in-Ok .opened)) _ (search needs) (o .2) (o .3) (c .run .ensures .after) (c .run .ensures .written) (c .run .ensures .promise)
+    (c .args .answers .now) _ (view (g .R·Reclaimer .state) (c .in-Ok .opened)) _ (search needs) (o .2) (o .3) (c .run .ensures .after) (c .run .ensures .written) (c .run .ensures .promise)
 
 pub returns-in-Err : need.returns-in-Err
 returns-in-Err g c =

@@ -18,12 +18,12 @@ not-one (Some n) = refl
 pub returns-then-eq : need.returns-then-eq
 returns-then-eq c =
     sym (pass-fails may-advance (c .args .lags .now) (c .loop-lag .lag-index) None (c .loop-lag-test .taken)
-      (not-one (getD (c .args .lags .now) (c .loop-lag .lag-index) None) ∙ ap not (eq-stores (getD (c .args .lags .now) (c .loop-lag .lag-index) None) 1 true (c .if-eq .ensures tt))) (c .loop-lag .inv))
+    (not-one (getD (c .args .lags .now) (c .loop-lag .lag-index) None) ∙ ap not (eq-stores (getD (c .args .lags .now) (c .loop-lag .lag-index) None) 1 true (c .if-eq .ensures tt))) (c .loop-lag .inv))
 
 pub loop-lag-again : need.loop-lag-again
 loop-lag-again c =
     pass-on may-advance (c .args .lags .now) (c .loop-lag .lag-index) None (c .loop-lag-test .taken)
-      (not-one (getD (c .args .lags .now) (c .loop-lag .lag-index) None) ∙ ap not (eq-stores (getD (c .args .lags .now) (c .loop-lag .lag-index) None) 1 false (c .if-eq .ensures tt))) (c .loop-lag .inv)
+    (not-one (getD (c .args .lags .now) (c .loop-lag .lag-index) None) ∙ ap not (eq-stores (getD (c .args .lags .now) (c .loop-lag .lag-index) None) 1 false (c .if-eq .ensures tt))) (c .loop-lag .inv)
 
 pub returns : need.returns
 returns c = sym (pass-end may-advance (c .args .lags .now) (c .loop-lag .lag-index) (c .loop-lag-test .left) (c .loop-lag .inv))

@@ -20,14 +20,14 @@ pub loop-waiting-again : need.loop-waiting-again
 loop-waiting-again c =
     let x : Waiting = getD (c .loop-waiting .waiting-items) (c .loop-waiting .waiting-index) blank-waiting in
     map-over-more (strike (c .args .session)) (c .deref-mut-waiting-items .result .now) (c .loop-waiting .waiting-items) (c .loop-waiting .waiting-index) x
-      (c .loop-waiting-test .taken) (c .loop-waiting .inv)
-      (getD-default (c .loop-waiting .waiting-items) (c .loop-waiting .waiting-index) blank-waiting x (omega (arith, c .loop-waiting .kept .waiting-items)))
+    (c .loop-waiting-test .taken) (c .loop-waiting .inv)
+    (getD-default (c .loop-waiting .waiting-items) (c .loop-waiting .waiting-index) blank-waiting x (omega (arith, c .loop-waiting .kept .waiting-items)))
 
 pub returns : need.returns
 returns c = record {
   items =
-    let v = c .deref-mut-waiting-items .ensures .value in
-    all-changed (strike (c .args .session)) (c .args .held .now .items) (c .loop-waiting .waiting-items) _ (c .loop-waiting .waiting-index) _
+      let v = c .deref-mut-waiting-items .ensures .value in
+      all-changed (strike (c .args .session)) (c .args .held .now .items) (c .loop-waiting .waiting-items) _ (c .loop-waiting .waiting-index) _
       (c .loop-waiting .inv ∙ ap (λ (l : List Waiting). map (strike (c .args .session)) (take (c .loop-waiting .waiting-index) l) ++ drop (c .loop-waiting .waiting-index) l) v)
       (omega (arith, ap length v)) (c .args .held .now .ok .0);
   capacity = refl;

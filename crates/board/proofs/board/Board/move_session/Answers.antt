@@ -1,6 +1,5 @@
-use mathlib.Core.Path.{refl, ap}
+use mathlib.Core.Path.{refl}
 use native.Mathlib.Omega.{arith}
-use Rattle.steps.specs.declared.moved.Moved.{Moved}
 use Rattle.board.specs.View.{stages}
 use Rattle.board.proofs.Stages.{stages-set}
 use Rattle.board.proofs.board.Board.move_session.Needs as need
@@ -8,8 +7,8 @@ use Rattle.board.proofs.board.Board.move_session.Needs as need
 pub returns : need.returns
 unfolding stages
 returns g c =
-    let e = c .act-stage .ensures in
-    record
-      { after = rw (stages-set (c .args .self .now .stages) (c .args .session) (c .act-stage .result .stage) (omega arith), e .after, ap (λ (r : Moved). r .stage) (e .moved)) refl
-      ; answer = ap (λ (r : Moved). r .answer) (e .moved)
-      }
+    let e = c .act-answer .ensures in
+    record {
+      after = rw (stages-set (c .args .self .now .stages) (c .args .session) (c .act-answer .last .stage) (omega arith), e .after, e .stage) refl;
+      answer = e .answer;
+    }

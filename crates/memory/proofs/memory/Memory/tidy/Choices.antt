@@ -10,6 +10,6 @@ abbrev pub μ-loop-c : given.MeasureT-loop-c
 
 abbrev pub Inv-loop-c : given.InvT-loop-c
 Inv-loop-c g l =
-  (left-over (g .R·Reclaimer .model) (memory-of (g .R·Reclaimer .state) (l .self)) .memory ≡ tidyings (g .R·Reclaimer .model) (memory-of (g .R·Reclaimer .state) (l .entry .self)) .memory)
-  × (left-over (g .R·Reclaimer .model) (memory-of (g .R·Reclaimer .state) (l .self)) .given + (l .held - μ-loop-c g l) ≡ tidyings (g .R·Reclaimer .model) (memory-of (g .R·Reclaimer .state) (l .entry .self)) .given)
-  × (μ-loop-c g l ≤ l .held)
+    (left-over (g .R·Reclaimer .model) (memory-of (g .R·Reclaimer .state) (l .self)) .memory ≡ tidyings (g .R·Reclaimer .model) (memory-of (g .R·Reclaimer .state) (l .entry .self)) .memory)
+    × (left-over (g .R·Reclaimer .model) (memory-of (g .R·Reclaimer .state) (l .self)) .given + (l .held - μ-loop-c g l) ≡ tidyings (g .R·Reclaimer .model) (memory-of (g .R·Reclaimer .state) (l .entry .self)) .given)
+    × (μ-loop-c g l ≤ l .held)

@@ -23,8 +23,8 @@ held-again c =
     let w : c .loop-session .session < length (h .rows) = omega (arith, h .«all_rows») in
     let t = h .slots (c .loop-session .session) w in
     let b : rows-store (h .rows) (c .index-cell .result .now) ≡ true =
-        slot-hit (getD (h .rows) (c .loop-session .session) no-row .slots) (c .loop-slot .slot) (c .index-cell .result .now) _ _ (omega (arith, t))
-          (eq-stores _ _ _ (c .if-eq .ensures tt)) (c .loop-slot .inv) in
+    slot-hit (getD (h .rows) (c .loop-session .session) no-row .slots) (c .loop-slot .slot) (c .index-cell .result .now) _ _ (omega (arith, t))
+    (eq-stores _ _ _ (c .if-eq .ensures tt)) (c .loop-slot .inv) in
     (c .held .inv .0, sym (place-on (rows-store (h .rows)) (vec-items (h .held)) (c .held .at) (c .index-cell .result .now) (omega (arith, h .held .ok .0)) (c .index-cell .ensures) b) ∙ c .held .inv .1)
 
 pub loop-slot-again : need.loop-slot-again
@@ -33,7 +33,7 @@ loop-slot-again c =
     let w : c .loop-session .session < length (h .rows) = omega (arith, h .«all_rows») in
     let t = h .slots (c .loop-session .session) w in
     slot-on (getD (h .rows) (c .loop-session .session) no-row .slots) (c .loop-slot .slot) (c .index-cell .result .now) _ _ (omega (arith, t))
-      (eq-stores _ _ _ (c .if-eq .ensures tt)) (c .loop-slot .inv)
+    (eq-stores _ _ _ (c .if-eq .ensures tt)) (c .loop-slot .inv)
 
 pub loop-session-again : need.loop-session-again
 loop-session-again c =
@@ -53,24 +53,39 @@ pub ghost-self : need.ghost-self
 ghost-self c =
     let h = c .held .self in
     let f = found (rows-store (h .rows)) (vec-items (h .held)) (c .held .at)
-        (place-found h (c .held .at) (c .loop-session .session) (c .index-cell .result .now) (omega (arith, h .held .ok .0)) (omega (arith, h .«all_rows»)) (c .index-cell .ensures) (c .loop-session .inv) (c .held .inv .1)) in
-    let e : without (rows-store (h .rows)) (vec-items (h .held)) ≡ vec-items (c .remove .last .self) = f .2 ∙ sym (c .remove .ensures .items) in
-    (h .«few_sessions», (h .«few_cells», (h .«all_inside», (h .«all_rows»,
-      (subst (λ (l : List ℕ). all-below itself (h .cells) l ≡ true) e (below-without itself (rows-store (h .rows)) (vec-items (h .held)) (h .cells) (h .below)),
-      (subst (λ (l : List ℕ). distinct itself l ≡ true) e (distinct-without itself (rows-store (h .rows)) (vec-items (h .held)) (h .apart)),
-      (h .past, (h .vacant, (h .slots, (omega (arith, h .room, c .remove .ensures .capacity), tt))))))))))
+    (place-found h (c .held .at) (c .loop-session .session) (c .index-cell .result .now) (omega (arith, h .held .ok .0)) (omega (arith, h .«all_rows»)) (c .index-cell .ensures) (c .loop-session .inv) (c .held .inv .1)) in
+    let e : without (rows-store (h .rows)) (vec-items (h .held)) ≡ vec-items (c .remove .last .self) = f .2 ∙ sym (c .remove .ensures .items) in (
+      h .«few_sessions»,
+      (
+        h .«few_cells»,
+        (
+          h .«all_inside»,
+          (
+            h .«all_rows»,
+            (
+              subst (λ (l : List ℕ). all-below itself (h .cells) l ≡ true) e (below-without itself (rows-store (h .rows)) (vec-items (h .held)) (h .cells) (h .below)),
+              (
+                subst (λ (l : List ℕ). distinct itself l ≡ true) e (distinct-without itself (rows-store (h .rows)) (vec-items (h .held)) (h .apart)),
+                (h .past, (h .vacant, (h .slots, (omega (arith, h .room, c .remove .ensures .capacity), tt)))),
+              ),
+            ),
+          ),
+        ),
+      ),
+    )
 
 pub returns-in-held : need.returns-in-held
 returns-in-held c =
     let h = c .held .self in
     let f = found (rows-store (h .rows)) (vec-items (h .held)) (c .held .at)
-        (place-found h (c .held .at) (c .loop-session .session) (c .index-cell .result .now) (omega (arith, h .held .ok .0, ap (λ (x : HazardPointers). vec-len (x .held)) (c .held .inv .0))) (omega (arith, h .«all_rows»)) (c .index-cell .ensures) (c .loop-session .inv) (c .held .inv .1)) in
+    (place-found h (c .held .at) (c .loop-session .session) (c .index-cell .result .now) (omega (arith, h .held .ok .0, ap (λ (x : HazardPointers). vec-len (x .held)) (c .held .inv .0))) (omega (arith, h .«all_rows»)) (c .index-cell .ensures) (c .loop-session .inv) (c .held .inv .1)) in
     let e : vec-items (c .remove .last .self) ≡ without (rows-store (h .rows)) (vec-items (h .held)) = c .remove .ensures .items ∙ sym (f .2) in
     let with-held : List ℕ → State = λ l. record { sessions = h .sessions; cells = h .cells; inside = h .inside; rows = h .rows; held = l } in
     let s : of-table h ≡ of-table (c .args .self .now) = ap of-table (c .held .inv .0) in
     record {
       answer = ap (λ k. Some k) (c .remove .ensures .value) ∙ sym (f .1 (c .remove .result)) ∙ ap (λ (st : State). oldest (rows-store (st .rows)) (st .held)) s;
-      after = ap with-held e ∙ ap collects s }
+      after = ap with-held e ∙ ap collects s;
+    }
 
 pub returns : need.returns
 returns c =

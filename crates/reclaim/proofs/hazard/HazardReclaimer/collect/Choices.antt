@@ -16,4 +16,4 @@ Inv-loop-session l = rows-store (drop (l .session) (l .self .rows)) (l .cell) �
 abbrev pub Inv-loop-slot : given.InvT-loop-slot
 Inv-loop-slot l =
     (row-stores (drop (l .slot) (getD (l .self .rows) (l .session) no-row .slots)) (l .cell) || rows-store (drop (l .session + 1) (l .self .rows)) (l .cell))
-      ≡ rows-store (l .self .rows) (l .cell)
+    ≡ rows-store (l .self .rows) (l .cell)

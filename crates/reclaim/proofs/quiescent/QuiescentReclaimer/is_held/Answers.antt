@@ -13,7 +13,7 @@ loop-waiting-holds c = refl
 pub returns-then-waiting-cell : need.returns-then-waiting-cell
 returns-then-waiting-cell c =
     sym (ap (λ (l : List Waiting). has cell l (c .args .cell)) (sym (c .deref-waiting-items .ensures .value))
-      ∙ has-hit cell (c .deref-waiting-items .result .now) (c .loop-waiting .waiting-index) (c .args .cell) _ (c .loop-waiting-test .taken) (c .if-waiting-cell .taken) (c .loop-waiting .inv))
+    ∙ has-hit cell (c .deref-waiting-items .result .now) (c .loop-waiting .waiting-index) (c .args .cell) _ (c .loop-waiting-test .taken) (c .if-waiting-cell .taken) (c .loop-waiting .inv))
 
 pub loop-waiting-again : need.loop-waiting-again
 loop-waiting-again c =
@@ -22,4 +22,4 @@ loop-waiting-again c =
 pub returns : need.returns
 returns c =
     sym (ap (λ (l : List Waiting). has cell l (c .args .cell)) (sym (c .deref-waiting-items .ensures .value))
-      ∙ has-end cell (c .deref-waiting-items .result .now) (c .loop-waiting .waiting-index) (c .args .cell) (c .loop-waiting-test .left) (c .loop-waiting .inv))
+    ∙ has-end cell (c .deref-waiting-items .result .now) (c .loop-waiting .waiting-index) (c .args .cell) (c .loop-waiting-test .left) (c .loop-waiting .inv))

@@ -1,8 +1,8 @@
 use mathlib.Core.Path.{_≡_, refl, sym, ap, _∙_}
 use Rattle.std.specs.declared.option.Option.the-variants.{Some}
 use Rattle.std.proofs.shelf.Tests.{ltb-true, ltb-false}
-use Rattle.steps.proofs.Placing.{at-place, past-place}
-use Rattle.steps.proofs.places.compare_places.Needs as need
+use Rattle.list.proofs.Placing.{at-place, past-place}
+use Rattle.list.proofs.places.compare_places.Needs as need
 
 pub returns-in-Some-Some : need.returns-in-Some-Some
 returns-in-Some-Some g c =
