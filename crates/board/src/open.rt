@@ -25,9 +25,7 @@ fn some_inside<R: Reclaimer>(reclaimer: &R) -> bool
 }
 
 impl<R: Reclaimer> Board<R> {
-    // A board for so many items over a reclaimer that has nobody inside and holds nothing.
-    // Where it is refused the reclaimer comes back as it was.
-    pub fn open(heap: Global, reclaimer: R, items: u16) -> Result<Board<R>, Unopened<R>>
+    pub(crate) fn open_over(heap: Global, reclaimer: R, items: u16) -> Result<Board<R>, Unopened<R>>
         ensures { λ r. ⌜ Opened model state reclaimer items r ⌝ }
     {
         let (sessions, cells) = reclaimer.sizes();

@@ -7,9 +7,7 @@ use machine::Reason;
 use reclaim::reclaimer::Reclaimer;
 use std::alloc::Global;
 
-// Opens a board for this list of items and runs the words on it. The whole run keeps the promise.
-// Where it is refused, the reclaimer comes back as it was and the answers are untouched.
-pub fn play<R: Reclaimer, T: ItemOrder>(
+pub(crate) fn open_and_run<R: Reclaimer, T: ItemOrder>(
     heap: Global,
     reclaimer: R,
     items: &[T],
@@ -30,11 +28,11 @@ pub fn play<R: Reclaimer, T: ItemOrder>(
             reclaimer,
         });
     }
-    match Board::open(heap, reclaimer, items.len() as u16) {
+    match Board::open_over(heap, reclaimer, items.len() as u16) {
         Err(refused) => Err(refused),
         Ok(opened) => {
             let mut board = opened;
-            let _ = board.run(items, words, answers);
+            let _ = board.do_run(items, words, answers);
             Ok(board)
         }
     }

@@ -2,10 +2,9 @@ ghost use mathlib.Core.Path.{_≡_};
 ghost use mathlib.Core.List.{_++_};
 ghost use Prim.Native.Nat.{_≤_};
 ghost use lib.ListN.{length, drop};
-ghost use Rattle.machine.specs.Laws.{Carries};
 ghost use Rattle.machine.specs.Machine.{ran};
 ghost use Rattle.machine.specs.Serial.{compared};
-ghost use Rattle.board.specs.Runs.{running};
+ghost use Rattle.board.specs.Runs.{Run-done};
 ghost use Rattle.board.specs.View.{view};
 use crate::board::Board;
 use items::order::ItemOrder;
@@ -21,22 +20,17 @@ impl<R: Reclaimer> Board<R> {
         ensures written { λ _. ⌜ now (answers .exit) ≡ ran model (compared order value (now (items .entry))) (length (now (items .entry))) (view state (now (self .entry))) (now (words .entry)) .answers ++ drop (length (now (words .entry))) (now (answers .entry)) ⌝ }
     {
         for (i, word) in words.iter().enumerate() {
-            answers[i] = self.word(items, *word);
+            answers[i] = self.do_word(items, *word);
         }
     }
 
-    // Does the words in order, writes one answer for each, leaves the other answers as they were, and says how many words there were.
-    // A board that came from an opening by words on one list has come so again, and its whole run keeps the promise.
-    pub fn run<T: ItemOrder>(
+    pub(crate) fn do_run<T: ItemOrder>(
         &mut self,
         items: &[T],
         words: &[u32],
         answers: &mut [Answer],
     ) -> Result<usize, Reason>
-        ensures after { λ _. ⌜ view state (now (self .exit)) ≡ running model (compared order value (now (items .entry))) (length (now (items .entry))) (view state (now (self .entry))) (now (words .entry)) (now (answers .entry)) .after ⌝ }
-        ensures written { λ _. ⌜ now (answers .exit) ≡ running model (compared order value (now (items .entry))) (length (now (items .entry))) (view state (now (self .entry))) (now (words .entry)) (now (answers .entry)) .written ⌝ }
-        ensures value { λ r. ⌜ r ≡ running model (compared order value (now (items .entry))) (length (now (items .entry))) (view state (now (self .entry))) (now (words .entry)) (now (answers .entry)) .value ⌝ }
-        ensures promise { λ _. ⌜ Carries model order value (now (items .entry)) (view state (now (self .entry))) (view state (now (self .exit))) (running model (compared order value (now (items .entry))) (length (now (items .entry))) (view state (now (self .entry))) (now (words .entry)) (now (answers .entry)) .seen) ⌝ }
+        ensures { λ r. ⌜ Run-done model order value (now (items .entry)) (view state (now (self .entry))) (now (words .entry)) (now (answers .entry)) (view state (now (self .exit))) (now (answers .exit)) r ⌝ }
     {
         if items.len() != self.items as usize {
             return Err(Reason::OtherItems);

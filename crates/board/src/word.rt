@@ -1,10 +1,9 @@
 ghost use mathlib.Core.Path.{_≡_};
 ghost use Prim.Native.Nat.{_<_};
-ghost use lib.ListN.{length};
 ghost use Rattle.machine.specs.Answers.{tidied};
-ghost use Rattle.machine.specs.Laws.{Carries};
-ghost use Rattle.machine.specs.Machine.{landed, moving, tidily, tidyings, worded};
+ghost use Rattle.machine.specs.Machine.{landed, moving, tidily, tidyings};
 ghost use Rattle.machine.specs.Serial.{compared};
+ghost use Rattle.board.specs.Runs.{Word-done};
 ghost use Rattle.board.specs.View.{view};
 use crate::board::Board;
 use items::order::ItemOrder;
@@ -35,12 +34,9 @@ impl<R: Reclaimer> Board<R> {
         Answer::tidied(self.memory.tidy())
     }
 
-    // Does one word, by the list of items whose places its words and cells name.
-    // A board that came from an opening by words on one list has come so again, and its whole run keeps the promise.
-    pub fn word<T: ItemOrder>(&mut self, items: &[T], word: u32) -> Answer
-        ensures after { λ _. ⌜ view state (now (self .exit)) ≡ worded model (compared order value (now (items .entry))) (length (now (items .entry))) (view state (now (self .entry))) word .after ⌝ }
-        ensures answer { λ r. ⌜ r ≡ worded model (compared order value (now (items .entry))) (length (now (items .entry))) (view state (now (self .entry))) word .answer ⌝ }
-        ensures promise { λ _. ⌜ Carries model order value (now (items .entry)) (view state (now (self .entry))) (view state (now (self .exit))) (worded model (compared order value (now (items .entry))) (length (now (items .entry))) (view state (now (self .entry))) word .seen) ⌝ }
+    // The checks of a word in their order, then what it asks for.
+    pub(crate) fn do_word<T: ItemOrder>(&mut self, items: &[T], word: u32) -> Answer
+        ensures { λ r. ⌜ Word-done model order value (now (items .entry)) (view state (now (self .entry))) word (view state (now (self .exit))) r ⌝ }
     {
         if items.len() != self.items as usize {
             return Answer::refused(Reason::OtherItems);

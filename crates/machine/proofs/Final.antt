@@ -276,7 +276,7 @@ module _ {State : Type 0} {M : Model State} {sessions cells : ℕ} (L : Rules M 
   -- a sound word that begins an operation of a session outside does what the begin does
   next-word : (m : Machine State) (w s : ℕ) (op : Op) → m .stage s ≡ Outside → parsed w (m .sessions) (m .items) ≡ Ok (Of s (Begin op))
       → worded M (cmpOf O val) (m .items) m w .answer ≡ beginning M (m .memory) s op .answer
-  unfolding worded moving
+  unfolding worded
   next-word m w s op out e =
       ap (λ b. cond b (answering M (cmpOf O val) m (parsed w (m .sessions) (m .items))) (refusing M m reason.OtherItems) .answer) (eq-eqb (m .items) (m .items) refl)
       ∙ (ap (λ r. answering M (cmpOf O val) m r .answer) e ∙ ap (λ g. opening M (m .memory) s op g .answer) out)

@@ -20,7 +20,6 @@ module _ {State : Type 0} (M : Model State) (cmp : ℕ → ℕ → Ordering) (n 
   same-sizes : (m : Machine State) (t : Bool) (r : Result Word Reason)
       → (cond t (answering M cmp m r) (refusing M m reason.OtherItems) .after .sessions ≡ m .sessions)
       × (cond t (answering M cmp m r) (refusing M m reason.OtherItems) .after .items ≡ m .items)
-  unfolding moving
   same-sizes m false r = (refl, refl)
   same-sizes m true (Err why) = (refl, refl)
   same-sizes m true (Ok Tidy) = (refl, refl)

@@ -248,7 +248,6 @@ module _ {State : Type 0} {M : Model State} {sessions cells : ℕ} (L : Rules M 
 
   did : (m : Machine State) (h : List Event) → m .sessions ≡ sessions → Inv L O val (history m (reverse h)) → (t : Bool) (r : Result Word Reason) → InRange (m .sessions) r
       → Inv L O val (history (cond t (answering M cmp₁ m r) (refusing M m reason.OtherItems) .after) (reverse (h ++ cond t (answering M cmp₁ m r) (refusing M m reason.OtherItems) .seen)))
-  unfolding moving
   did m h e i false r g = grew m h [] i
   did m h e i true (Err why) g = grew m h [] i
   did m h e i true (Ok Tidy) g =

@@ -366,7 +366,7 @@ module _ {State : Type 0} (M : Model State) where
   opening h s op (RemoveCell k q c n) = busy h (RemoveCell k q c n)
 
   -- the session's stage and the word's kind together decide what happens
-  unfoldable pub moving : (ℕ → ℕ → Ordering) → Memory State → ℕ → Stage → Kind → Outcome State
+  abbrev pub moving : (ℕ → ℕ → Ordering) → Memory State → ℕ → Stage → Kind → Outcome State
   moving cmp h s g Step = stepping cmp h s g
   moving cmp h s g (Begin op) = opening h s op g
 

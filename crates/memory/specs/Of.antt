@@ -8,7 +8,8 @@ use Rattle.std.specs.declared.option.Option.the-variants.{Some, None}
 use Rattle.std.specs.Of.Vec.{vec-items}
 use Rattle.reclaim.specs.Model.{Model}
 use Rattle.machine.specs.declared.cell.Cell.{Cell}
-use Rattle.machine.specs.Machine.{as-memory, counting}
+use Rattle.machine.specs.declared.cell.Link.{Link}
+use Rattle.machine.specs.Machine.{as-memory, counting, put}
 use Rattle.machine.specs.Machine as machine
 use Rattle.memory.specs.declared.memory.Memory.{Memory}
 
@@ -31,3 +32,14 @@ memory-of st m =
 -- nothing linked, every cell free; there are 256 at most
 abbrev pub all-free : {S : Type 0} → Model S → S → machine.Memory S
 all-free M x = as-memory x None None (counting 0 (min (M .cells x) 256)) (λ c. None) (λ c. false) (λ c. 0)
+
+-- one cell written: its link and mark, its mark alone, all of it
+abbrev pub with-link : {S : Type 0} → machine.Memory S → ℕ → Link → machine.Memory S
+with-link h c l = as-memory (h .reclaimer) (h .head) (h .front) (h .free) (put (h .link) c (l .to)) (put (h .mark) c (l .marked)) (h .item)
+
+abbrev pub with-mark : {S : Type 0} → machine.Memory S → ℕ → Bool → machine.Memory S
+with-mark h c m = as-memory (h .reclaimer) (h .head) (h .front) (h .free) (h .link) (put (h .mark) c m) (h .item)
+
+abbrev pub with-cell : {S : Type 0} → machine.Memory S → ℕ → Cell → machine.Memory S
+with-cell h c x =
+    as-memory (h .reclaimer) (h .head) (h .front) (h .free) (put (h .link) c (x .link .to)) (put (h .mark) c (x .link .marked)) (put (h .item) c (x .place))

@@ -3,7 +3,7 @@ ghost use mathlib.Core.List.{reverse};
 ghost use lib.ListN.{length};
 ghost use Rattle.machine.specs.declared.cell.Prev.the-variants.{At};
 ghost use Rattle.machine.specs.Machine.{same, points, headed, written, relinked, marked, taken};
-ghost use Rattle.memory.specs.Of.{memory-of};
+ghost use Rattle.memory.specs.Of.{memory-of, with-link, with-mark, with-cell};
 use crate::memory::Memory;
 use machine::Cell;
 use machine::Link;
@@ -43,11 +43,17 @@ impl<R: Reclaimer> Memory<R> {
         self.cells[c as usize]
     }
 
+    fn set_link(&mut self, c: u8, link: Link)
+        ensures { λ _. ⌜ memory-of state (now (self .exit)) ≡ with-link (memory-of state (now (self .entry))) c link ⌝ }
+    {
+        self.cells[c as usize].link = link;
+    }
+
     // The cell's link becomes the unmarked one to a cell or to none.
     pub fn write_link(&mut self, c: u8, to: Option<u8>)
         ensures { λ _. ⌜ memory-of state (now (self .exit)) ≡ written model (memory-of state (now (self .entry))) c to ⌝ }
     {
-        self.cells[c as usize].link = Link { marked: false, to };
+        self.set_link(c, Link { marked: false, to });
     }
 
     // Where the cell's link goes; its mark stays.
@@ -57,23 +63,34 @@ impl<R: Reclaimer> Memory<R> {
         self.cells[c as usize].link.to = to;
     }
 
+    // The cell's mark; where its link goes stays.
+    fn set_mark(&mut self, c: u8, marked: bool)
+        ensures { λ _. ⌜ memory-of state (now (self .exit)) ≡ with-mark (memory-of state (now (self .entry))) c marked ⌝ }
+    {
+        self.cells[c as usize].link.marked = marked;
+    }
+
     pub fn mark(&mut self, c: u8)
         ensures { λ _. ⌜ memory-of state (now (self .exit)) ≡ marked model (memory-of state (now (self .entry))) c ⌝ }
     {
-        self.cells[c as usize].link.marked = true;
+        self.set_mark(c, true);
+    }
+
+    fn set_cell(&mut self, c: u8, cell: Cell)
+        ensures { λ _. ⌜ memory-of state (now (self .exit)) ≡ with-cell (memory-of state (now (self .entry))) c cell ⌝ }
+    {
+        self.cells[c as usize] = cell;
     }
 
     // A fresh cell gets the item's place and an empty unmarked link.
     pub fn fill(&mut self, c: u8, place: u16)
         ensures { λ _. ⌜ memory-of state (now (self .exit)) ≡ taken model (memory-of state (now (self .entry))) c (memory-of state (now (self .entry)) .free) place ⌝ }
     {
-        self.cells[c as usize] = Cell {
-            place,
-            link: Link {
-                marked: false,
-                to: None,
-            },
+        let link = Link {
+            marked: false,
+            to: None,
         };
+        self.set_cell(c, Cell { place, link });
     }
 
     // Whether the link of prev is unmarked and to this cell or none.

@@ -6,8 +6,8 @@ use crate::memory::Memory;
 use reclaim::reclaimer::Reclaimer;
 
 impl<R: Reclaimer> Memory<R> {
-    // Collects until none is answered, frees each cell answered, and says how many they were.
-    pub fn tidy(&mut self) -> u16
+    // The held cells are counted before and after: what is missing was given back.
+    fn collect_all(&mut self) -> u16
         ensures after { λ _. ⌜ memory-of state (now (self .exit)) ≡ tidyings model (memory-of state (now (self .entry))) .memory ⌝ }
         ensures value { λ r. ⌜ r ≡ tidyings model (memory-of state (now (self .entry))) .given ⌝ }
         ensures none { λ _. ⌜ Ended-at-none model (memory-of state (now (self .exit)) .reclaimer) ⌝ }
@@ -17,5 +17,14 @@ impl<R: Reclaimer> Memory<R> {
             self.free.put(c);
         }
         held - self.reclaimer.held_count()
+    }
+
+    // Collects until none is answered, frees each cell answered, and says how many they were.
+    pub fn tidy(&mut self) -> u16
+        ensures after { λ _. ⌜ memory-of state (now (self .exit)) ≡ tidyings model (memory-of state (now (self .entry))) .memory ⌝ }
+        ensures value { λ r. ⌜ r ≡ tidyings model (memory-of state (now (self .entry))) .given ⌝ }
+        ensures none { λ _. ⌜ Ended-at-none model (memory-of state (now (self .exit)) .reclaimer) ⌝ }
+    {
+        self.collect_all()
     }
 }

@@ -91,7 +91,7 @@ after-steps n a = replicate n under-way ++ a ∷ []
 abbrev pub stalled-pop : List ℕ
 stalled-pop =
     push 0 0 ∷ replicate 2 (step 0) ++ push 0 1 ∷ replicate 2 (step 0) ++ pop 0 ∷ replicate 4 (step 0)
-      ++ pop 1 ∷ replicate 5 (step 1) ++ pop 1 ∷ replicate 5 (step 1) ++ push 1 2 ∷ []
+    ++ pop 1 ∷ replicate 5 (step 1) ++ pop 1 ∷ replicate 5 (step 1) ++ push 1 2 ∷ []
 
 abbrev pub stalled-answers : List Answer
 stalled-answers =
@@ -111,7 +111,7 @@ samples =
     -- hazard pointers: the push gets cell 0, and when it has ended the stalled swap fails
     ∷ stands hazard-pointers 2 2 (7 ∷ 9 ∷ 8 ∷ []) stalled-pop 1 (PushReadHead 0)
     ∷ answers hazard-pointers 2 2 (7 ∷ 9 ∷ 8 ∷ []) (stalled-pop ++ step 1 ∷ step 1 ∷ step 0 ∷ [])
-        (stalled-answers ++ under-way ∷ under-way ∷ yes 0 ∷ under-way ∷ [])
+    (stalled-answers ++ under-way ∷ under-way ∷ yes 0 ∷ under-way ∷ [])
     -- epochs and quiescent states refuse the push
     ∷ answers epochs 2 2 (7 ∷ 9 ∷ 8 ∷ []) stalled-pop (stalled-answers ++ refused NoCell ∷ [])
     ∷ answers quiescent-states 2 2 (7 ∷ 9 ∷ 8 ∷ []) stalled-pop (stalled-answers ++ refused NoCell ∷ [])

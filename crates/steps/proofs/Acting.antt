@@ -29,6 +29,5 @@ module _ {S : Type 0} (M : Model S) (cmp : ℕ → ℕ → Ordering) (h : Memory
 
   -- a step, a session outside, or a refusal
   pub ways : (g : Stage) (k : Kind) → (k ≡ Step) ⊎ ((g ≡ Outside) ⊎ (moving M cmp h s g k ≡ busy M h g))
-  unfolding moving
   ways g Step = inl refl
   ways g (Begin op) = inr (at op g)

@@ -4,5 +4,5 @@ use Rattle.machine.specs.Machine.{put, shelve, counting, tidying, moving, worde
 use Rattle.samples.proofs.samples_hold.Needs as need
 
 pub returns : need.returns
-unfolding put shelve counting tidying moving worded ran parsed
+unfolding put shelve counting tidying worded ran parsed
 returns c = record { count = refl; all = (refl, (refl, (refl, (refl, (refl, (refl, (refl, (refl, (refl, (refl, (refl, (refl, (refl, tt))))))))))))) }

@@ -5,13 +5,13 @@ use lib.ListN.{length}
 use borrow.Author.Needs.{needs}
 use Rattle.board.specs.View.{view}
 use Rattle.board.proofs.FirstRun.{played}
-use Rattle.board.proofs.playing.play.Needs as need
+use Rattle.board.proofs.playing.open_and_run.Needs as need
 
 pub returns-in-Ok : need.returns-in-Ok
 returns-in-Ok g c =
     let o = c .in-Ok .ensures tt in
     played (g .R·Reclaimer .model) (g .R·Reclaimer .state) (g .T·ItemOrder .order) (g .T·ItemOrder .value) (c .args .reclaimer) (c .args .items .now) (c .args .words .now)
-    (c .args .answers .now) _ (view (g .R·Reclaimer .state) (c .in-Ok .opened)) _ (search needs) (o .2) (o .3) (c .run .ensures .after) (c .run .ensures .written) (c .run .ensures .promise)
+    (c .args .answers .now) _ (view (g .R·Reclaimer .state) (c .in-Ok .opened)) _ (search needs) (o .2) (o .3) (c .do-run .ensures .after) (c .do-run .ensures .answers) (c .do-run .ensures .promise)
 
 pub returns-in-Err : need.returns-in-Err
 returns-in-Err g c =

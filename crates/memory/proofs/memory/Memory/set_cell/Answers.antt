@@ -1,7 +1,7 @@
 use mathlib.Core.Path.{refl}
 use native.Mathlib.Omega.{arith}
 use Rattle.memory.proofs.Maps.{links-set, marks-set, places-set}
-use Rattle.memory.proofs.memory.Memory.fill.Needs as need
+use Rattle.memory.proofs.memory.Memory.set_cell.Needs as need
 
 pub returns : need.returns
 returns g c =

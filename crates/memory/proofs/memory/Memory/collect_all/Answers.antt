@@ -4,7 +4,7 @@ use mathlib.Core.Path.{_≡_, sym, ap, _∙_}
 use Prim.Native.Nat.{_-_}
 use Rattle.memory.specs.Of.{memory-of}
 use Rattle.memory.proofs.Tidying.{falls, stays, turn, ends}
-use Rattle.memory.proofs.memory.Memory.tidy.Needs as need
+use Rattle.memory.proofs.memory.Memory.collect_all.Needs as need
 
 pub loop-c-less : need.loop-c-less
 loop-c-less g c =

@@ -3,7 +3,7 @@ use mathlib.Core.Path.{_≡_}
 use Rattle.machine.specs.Machine.{tidyings}
 use Rattle.memory.specs.Of.{memory-of}
 use Rattle.memory.proofs.Tidying.{left-over}
-use Rattle.memory.proofs.memory.Memory.tidy.Given as given
+use Rattle.memory.proofs.memory.Memory.collect_all.Given as given
 
 abbrev pub μ-loop-c : given.MeasureT-loop-c
 μ-loop-c g l = g .R·Reclaimer .model .count (g .R·Reclaimer .state (l .self .reclaimer))
