@@ -16,14 +16,20 @@ impl<R: Reclaimer> Board<R> {
         self.memory.tallies()
     }
 
+    fn stage_at(&self, session: usize) -> Stage
+        ensures { λ r. ⌜ r ≡ view state (now (self .entry)) .stage session ⌝ }
+    {
+        match self.stages.get(session) {
+            Some(stage) => *stage,
+            None => Stage::Outside,
+        }
+    }
+
     // Where a session stands; one that there is not is outside.
     pub fn stage_of(&self, session: u8) -> Stage
         ensures { λ r. ⌜ r ≡ view state (now (self .entry)) .stage session ⌝ }
     {
-        match self.stages.get(session as usize) {
-            Some(stage) => *stage,
-            None => Stage::Outside,
-        }
+        self.stage_at(session as usize)
     }
 
     pub fn cell_at(&self, cell: u8) -> Cell
