@@ -4,10 +4,10 @@ ghost use Rattle.board.specs.View.{view};
 use crate::board::Board;
 use crate::open::Unopened;
 use crate::playing::open_and_run;
-use items::order::ItemOrder;
+use items::ItemOrder;
 use machine::Answer;
 use machine::Reason;
-use reclaim::reclaimer::Reclaimer;
+use reclaim::Reclaimer;
 use std::alloc::Global;
 
 // The calls that open a board and give it words.

@@ -5,7 +5,7 @@ ghost use Rattle.board.specs.View.{view};
 use crate::board::Board;
 use machine::Cell;
 use machine::Stage;
-use reclaim::reclaimer::Reclaimer;
+use reclaim::Reclaimer;
 
 // Looks at a board, which change nothing.
 impl<R: Reclaimer> Board<R> {

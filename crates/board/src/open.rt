@@ -4,7 +4,7 @@ use crate::board::Board;
 use machine::Reason;
 use machine::Stage;
 use memory::Memory;
-use reclaim::reclaimer::Reclaimer;
+use reclaim::Reclaimer;
 use std::alloc::Global;
 
 // A reclaimer that no board was opened over, and why.

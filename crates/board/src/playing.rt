@@ -1,10 +1,10 @@
 ghost use Rattle.board.specs.Opens.{Played-as};
 use crate::board::Board;
 use crate::open::Unopened;
-use items::order::ItemOrder;
+use items::ItemOrder;
 use machine::Answer;
 use machine::Reason;
-use reclaim::reclaimer::Reclaimer;
+use reclaim::Reclaimer;
 use std::alloc::Global;
 
 pub(crate) fn open_and_run<R: Reclaimer, T: ItemOrder>(

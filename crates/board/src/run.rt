@@ -7,10 +7,10 @@ ghost use Rattle.machine.specs.Serial.{compared};
 ghost use Rattle.board.specs.Runs.{Run-done};
 ghost use Rattle.board.specs.View.{view};
 use crate::board::Board;
-use items::order::ItemOrder;
+use items::ItemOrder;
 use machine::Answer;
 use machine::Reason;
-use reclaim::reclaimer::Reclaimer;
+use reclaim::Reclaimer;
 
 impl<R: Reclaimer> Board<R> {
     // Does a word, and writes its answer at a place.

@@ -6,12 +6,12 @@ ghost use Rattle.machine.specs.Serial.{compared};
 ghost use Rattle.board.specs.Runs.{Word-done};
 ghost use Rattle.board.specs.View.{view};
 use crate::board::Board;
-use items::order::ItemOrder;
+use items::ItemOrder;
 use machine::Answer;
 use machine::Kind;
 use machine::Reason;
 use machine::Word;
-use reclaim::reclaimer::Reclaimer;
+use reclaim::Reclaimer;
 use steps::act;
 
 impl<R: Reclaimer> Board<R> {

@@ -11,7 +11,7 @@ use machine::Stage;
 use memory::Memory;
 use memory::complete;
 use memory::go_on;
-use reclaim::reclaimer::Reclaimer;
+use reclaim::Reclaimer;
 
 // The fresh cell goes in between prev and the cell.
 pub fn link_fresh<R: Reclaimer>(

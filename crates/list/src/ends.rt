@@ -8,7 +8,7 @@ use machine::Stage;
 use memory::Memory;
 use memory::complete;
 use memory::go_on;
-use reclaim::reclaimer::Reclaimer;
+use reclaim::Reclaimer;
 
 // The search has ended with no such item.
 pub(crate) fn search_absent<R: Reclaimer>(

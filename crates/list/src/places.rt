@@ -3,7 +3,7 @@ ghost use Prim.Native.Nat.{_<_};
 ghost use lib.ListN.{length};
 ghost use Rattle.machine.specs.Serial.{compared};
 ghost use Rattle.machine.specs.Machine.{sought};
-use items::order::ItemOrder;
+use items::ItemOrder;
 use machine::Goal;
 use std::cmp::Ordering;
 

@@ -12,7 +12,7 @@ use crate::ends::search_absent;
 use crate::ends::search_present;
 use crate::places::compare_places;
 use crate::places::sought_by;
-use items::order::ItemOrder;
+use items::ItemOrder;
 use machine::Answer;
 use machine::Cell;
 use machine::Goal;
@@ -21,7 +21,7 @@ use machine::Search;
 use machine::Stage;
 use memory::Memory;
 use memory::go_on;
-use reclaim::reclaimer::Reclaimer;
+use reclaim::Reclaimer;
 use std::cmp::Ordering;
 
 // The search goes on at another stage.

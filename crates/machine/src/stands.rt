@@ -1,6 +1,6 @@
 ghost use Rattle.machine.specs.Laws.{Kept-over-runs};
-use items::order::ItemOrder;
-use reclaim::reclaimer::Reclaimer;
+use items::ItemOrder;
+use reclaim::Reclaimer;
 
 // The promise over every run of words from an opening, for every lawful reclaimer and every order of items.
 pub fn stands<R: Reclaimer, T: ItemOrder>(reclaimer: &R, item: &T) -> bool

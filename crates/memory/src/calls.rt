@@ -3,8 +3,8 @@ ghost use lib.ListN.{length};
 ghost use Rattle.machine.specs.Machine.{entered, left, protected, retired};
 ghost use Rattle.memory.specs.Of.{memory-of};
 use crate::memory::Memory;
-use reclaim::reclaimer::Reclaimer;
-use reclaim::token::Unlinked;
+use reclaim::Reclaimer;
+use reclaim::Unlinked;
 
 // The reclaimer's calls on behalf of a step. A refused call changes nothing, so no answer is looked at.
 impl<R: Reclaimer> Memory<R> {

@@ -8,7 +8,7 @@ use crate::memory::Memory;
 use machine::Cell;
 use machine::Link;
 use machine::Prev;
-use reclaim::reclaimer::Reclaimer;
+use reclaim::Reclaimer;
 
 pub fn same_cell(a: Option<u8>, b: Option<u8>) -> bool
     ensures { λ r. ⌜ r ≡ same a b ⌝ }

@@ -3,7 +3,7 @@ ghost use Rattle.machine.specs.Machine.{put-back};
 ghost use Rattle.memory.specs.Of.{memory-of};
 ghost use Rattle.memory.specs.Fresh.{takes};
 use crate::memory::Memory;
-use reclaim::reclaimer::Reclaimer;
+use reclaim::Reclaimer;
 
 impl<R: Reclaimer> Memory<R> {
     // A fresh cell: the top of the free stack, else what the reclaimer gives back.

@@ -6,7 +6,7 @@ ghost use Rattle.memory.specs.Of.{memory-of};
 use crate::memory::Memory;
 use machine::Answer;
 use machine::Stage;
-use reclaim::reclaimer::Reclaimer;
+use reclaim::Reclaimer;
 
 // The session's operation goes on at another stage.
 pub fn go_on(stage: &mut Stage, next: Stage) -> Answer

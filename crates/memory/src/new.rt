@@ -5,7 +5,7 @@ use crate::free::FreeStack;
 use crate::memory::Memory;
 use machine::Cell;
 use machine::Link;
-use reclaim::reclaimer::Reclaimer;
+use reclaim::Reclaimer;
 use std::alloc::Global;
 
 impl<R: Reclaimer> Memory<R> {

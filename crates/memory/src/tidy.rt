@@ -3,7 +3,7 @@ ghost use Rattle.machine.specs.Machine.{tidyings};
 ghost use Rattle.memory.specs.Of.{memory-of};
 ghost use Rattle.memory.specs.Fresh.{Ended-at-none};
 use crate::memory::Memory;
-use reclaim::reclaimer::Reclaimer;
+use reclaim::Reclaimer;
 
 impl<R: Reclaimer> Memory<R> {
     // The held cells are counted before and after: what is missing was given back.

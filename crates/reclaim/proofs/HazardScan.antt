@@ -1,48 +1,64 @@
+-- The search of all slots for the oldest held cell that none stores.
 use mathlib.Core.Path.{_≡_, refl, sym, ap, subst, _∙_}
-use mathlib.Core.Logic.{_⊎_, inl, inr, ⊎-elim}
-use mathlib.Core.Bool.{Bool, true, false, cond, not, _||_, _&&_}
-use mathlib.Core.List.{List, [], _∷_, _++_}
-use Prim.Native.Nat.{ℕ, zero, suc, _+_, _<_, _≤_}
+use mathlib.Core.Logic.{⊎-elim}
+use mathlib.Core.Bool.{true, false}
+use mathlib.Core.List.{List, [], _∷_, map}
+use Prim.Native.Nat.{ℕ, zero, suc, _<_, _≤_}
 use native.Mathlib.Omega.{arith}
-use lib.Dec.{ltb, eqb}
-use lib.ListN.{length, getD, take, drop}
-use Rattle.std.specs.Orderings.{Decides}
-use Rattle.std.specs.Options.{Cases}
+use lib.ListN.{length, getD}
+use Rattle.std.specs.Holes.{removed}
 use Rattle.std.specs.declared.option.Option.{Option}
 use Rattle.std.specs.declared.option.Option.the-variants.{Some, None}
-use Rattle.std.proofs.shelf.Ways.{tells, same-from-decides, decides-eqb}
-use Rattle.std.proofs.shelf.Lists.{at-drop-more, at-drop-all}
-use Rattle.reclaim.specs.declared.row.Row.{Row}
-use Rattle.reclaim.specs.HazardPointers.{stores, row-stores, rows-store, no-row}
+use Rattle.std.proofs.shelf.Tests.{cases-bool, or-from, both-ways}
+use Rattle.reclaim.specs.declared.held.HeldCell.{HeldCell}
+use Rattle.reclaim.specs.declared.hazard.table.Row.{Row}
+use Rattle.reclaim.specs.Cells.{oldest, without, cell-of}
+use Rattle.reclaim.specs.Table.{cell, with-held}
+use Rattle.reclaim.specs.HazardPointers.{Row-table, guarded, stores, row-stores, rows-store, no-row, Three-slots}
+use Rattle.reclaim.proofs.CellLemmas.{found-at, none-at}
+use Rattle.reclaim.proofs.HazardLaws.{row-stored}
 
--- what `==` with a cell answers on a slot
-pub eq-stores : (o : Option ℕ) (c : ℕ) (r : Bool)
-    → Cases o (Cases (Some c) (r ≡ true) (λ _. r ≡ false)) (λ x. Cases (Some c) (r ≡ false) (λ y. Decides r (x ≡ y)))
-    → stores o c ≡ r
-eq-stores None c r h = sym h
-eq-stores (Some d) c r h = same-from-decides (eqb d c) r (decides-eqb d c) h
+-- a slot that stores the cell
+stored-by : (rs : List Row) (s i c : ℕ) → stores (getD (getD rs s no-row .slots) i None) c ≡ true → rows-store rs c ≡ true
+stored-by rs s i c h =
+    ⊎-elim (λ (e : rows-store rs c ≡ true). e) (λ (e : rows-store rs c ≡ false). absurd (both-ways (stores (getD (getD rs s no-row .slots) i None) c) (row-stored rs s i c e) h))
+    (cases-bool (rows-store rs c))
 
-pub slot-on : (os : List (Option ℕ)) (i c : ℕ) (rest whole : Bool) → i < length os → stores (getD os i None) c ≡ false
-    → (row-stores (drop i os) c || rest) ≡ whole → (row-stores (drop (i + 1) os) c || rest) ≡ whole
-slot-on os i c rest whole l s inv =
-    let e : row-stores (drop i os) c ≡ (stores (getD os i None) c || row-stores (drop (i + 1) os) c) = at-drop-more (λ y. row-stores y c) os i None l in
-    grind arith
+-- a slot that stores the cell that is looked at, which is x in the list
+pub stored-at : (rs : List Row) (s i : ℕ) (x y : HeldCell (Unit {0})) → x ≡ y → true ≡ stores (getD (getD rs s no-row .slots) i None) (x .cell) → rows-store rs (y .cell) ≡ true
+stored-at rs s i x y e h = ap (λ (z : HeldCell (Unit {0})). rows-store rs (z .cell)) (sym e) ∙ stored-by rs s i (x .cell) (sym h)
 
-pub slot-hit : (os : List (Option ℕ)) (i c : ℕ) (rest whole : Bool) → i < length os → stores (getD os i None) c ≡ true
-    → (row-stores (drop i os) c || rest) ≡ whole → whole ≡ true
-slot-hit os i c rest whole l s inv =
-    let e : row-stores (drop i os) c ≡ (stores (getD os i None) c || row-stores (drop (i + 1) os) c) = at-drop-more (λ y. row-stores y c) os i None l in
-    grind arith
+-- no slot that does
+row-clear : (os : List (Option ℕ)) (c : ℕ) → ((i : ℕ) → i < length os → stores (getD os i None) c ≡ false) → row-stores os c ≡ false
+row-clear [] c h = refl
+row-clear (o ∷ os) c h = or-from (stores o c) (row-stores os c) (h 0 (omega arith)) (row-clear os c (λ i l. h (suc i) (omega arith)))
 
-pub slots-end : (os : List (Option ℕ)) (i c : ℕ) (rest whole : Bool) → length os ≤ i
-    → (row-stores (drop i os) c || rest) ≡ whole → rest ≡ whole
-slots-end os i c rest whole l inv =
-    let e : row-stores (drop i os) c ≡ false = at-drop-all (λ y. row-stores y c) os i l in
-    grind arith
+rows-clear : (rs : List Row) (c : ℕ) → Three-slots rs → ((s : ℕ) → s < length rs → (i : ℕ) → i < 3 → stores (getD (getD rs s no-row .slots) i None) c ≡ false) → rows-store rs c ≡ false
+rows-clear [] c three h = refl
+rows-clear (r ∷ rs) c three h =
+    or-from (row-stores (r .slots) c) (rows-store rs c)
+    (row-clear (r .slots) c (λ i l. h 0 (omega arith) i (let n = three 0 (omega arith) in omega arith)))
+    (rows-clear rs c (λ s l. three (suc s) (omega arith)) (λ s l. h (suc s) (omega arith)))
 
-pub session-starts : (rs : List Row) (s c : ℕ) (whole : Bool) → s < length rs → rows-store (drop s rs) c ≡ whole
-    → (row-stores (getD rs s no-row .slots) c || rows-store (drop (s + 1) rs) c) ≡ whole
-session-starts rs s c whole l inv = sym (at-drop-more (λ y. rows-store y c) rs s no-row l) ∙ inv
+module _ (t u : Row-table) (same : t ≡ u) (d : HeldCell (Unit {0})) where
+  pub scan-stops : (i : ℕ) (r n : ℕ) (hs : List (HeldCell (Unit {0}))) → i < length (t .held) → ((k : ℕ) → k < i → rows-store (t .places) (getD (t .held) k d .cell) ≡ true)
+      → Three-slots (t .places) → ((s : ℕ) → s < length (t .places) → (j : ℕ) → j < 3 → stores (getD (getD (t .places) s no-row .slots) j None) (getD (t .held) i d .cell) ≡ false)
+      → r ≡ getD (map cell (t .held)) i 0 → hs ≡ removed (t .held) i → n ≡ t .cells
+      → (Some r ≡ cell-of cell (oldest (guarded u) (u .held)))
+      × (_≡_ {A = Row-table} (record { sessions = t .sessions; cells = n; places = t .places; held = hs }) (with-held u (without (guarded u) (u .held))))
+  scan-stops i r n hs l before three clear a b e =
+      let f = found-at cell (guarded t) (t .held) i d l before (rows-clear (t .places) (getD (t .held) i d .cell) three clear) in
+      let h : hs ≡ without (guarded t) (t .held) = b ∙ sym (f .2) in
+      let kept : _≡_ {A = Row-table} (record { sessions = t .sessions; cells = n; places = t .places; held = hs }) (with-held t (without (guarded t) (t .held))) =
+      λ j. record { sessions = t .sessions; cells = e j; places = t .places; held = h j } in (
+        ap (λ c. Some c) a ∙ sym (f .1) ∙ ap (λ (v : Row-table). cell-of cell (oldest (guarded v) (v .held))) same,
+        kept ∙ ap (λ (v : Row-table). with-held v (without (guarded v) (v .held))) same,
+      )
 
-pub sessions-end : (rs : List Row) (s c : ℕ) (whole : Bool) → length rs ≤ s → rows-store (drop s rs) c ≡ whole → whole ≡ false
-sessions-end rs s c whole l inv = sym inv ∙ at-drop-all (λ y. rows-store y c) rs s l
+  pub scan-ends : (i : ℕ) → length (t .held) ≤ i → ((k : ℕ) → k < i → rows-store (t .places) (getD (t .held) k d .cell) ≡ true)
+      → (None ≡ cell-of cell (oldest (guarded u) (u .held))) × (t ≡ with-held u (without (guarded u) (u .held)))
+  scan-ends i l before =
+      let f = none-at cell (guarded t) (t .held) d (λ k m. before k (omega arith)) in (
+        sym (f .0) ∙ ap (λ (v : Row-table). cell-of cell (oldest (guarded v) (v .held))) same,
+        ap (with-held t) (sym (f .1)) ∙ ap (λ (v : Row-table). with-held v (without (guarded v) (v .held))) same,
+      )

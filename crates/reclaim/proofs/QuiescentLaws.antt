@@ -1,261 +1,111 @@
+-- Quiescent states are lawful.
 use mathlib.Core.Path.{_≡_, refl, sym, ap, subst, _∙_}
-use mathlib.Core.Logic.{_⊎_, inl, inr, ⊎-elim}
-use mathlib.Core.Bool.{Bool, true, false, cond, not, _||_, _&&_}
+use mathlib.Core.Logic.{⊎-elim}
+use mathlib.Core.Bool.{Bool, true, false, not, _||_, _&&_}
 use mathlib.Core.List.{List, [], _∷_, _++_, map}
-use Prim.Native.Nat.{ℕ, zero, suc, _+_, _<_, _≤_}
+use Prim.Native.Nat.{ℕ, zero, suc, _<_}
 use native.Mathlib.Omega.{arith}
-use lib.Dec.{ltb, eqb}
-use lib.ListN.{length, getD, set, drop, length-set}
-use Rattle.std.specs.declared.option.Option.{Option}
-use Rattle.std.specs.declared.option.Option.the-variants.{Some, None}
-use Rattle.std.proofs.shelf.Tests.{cases-eq, cases-bool, eq-eqb, ne-eqb, eqb-true, and-parts, or-parts, or-cases, and-from, cases-lt, both-ways}
-use Rattle.std.proofs.shelf.Lists.{getD-set-same, getD-set-other, at-drop-more, at-drop-all, getD-past, set-past}
-use Rattle.reclaim.specs.declared.waiting.Waiting.{Waiting}
-use Rattle.reclaim.specs.Cells.{has, has-with, distinct, all-below, oldest, without, cell-of}
-use Rattle.reclaim.specs.Model.{Sound, Same-sizes, Goes-on, Entered, Left, Protected, Retired, Gave, Gave-none, Collected, Lawful}
-use Rattle.reclaim.specs.QuiescentStates.{State, Good, full, quiescent, cell, any, waits, strike, has-record, enters, leaves, retires, collects}
-use Rattle.reclaim.proofs.CellLemmas.{counted, has-below, has-push, distinct-push, below-push, oldest-has, oldest-free, has-without, distinct-without, below-without, none-why, without-none, with-has, with-push, with-weaker, with-sub, with-other, with-gone, has-map, distinct-map, below-map, with-map, pass-push, pass-map, pass-without}
-use Rattle.reclaim.proofs.HazardLaws.{set-reads}
+use lib.Dec.{eqb}
+use lib.ListN.{length, getD, set, length-set}
+use Rattle.std.specs.Holes.{removed}
+use Rattle.std.proofs.shelf.Tests.{cases-eq, cases-bool, eq-eqb, eqb-true, and-parts, and-right, or-cases, both-ways, not-true, not-false}
+use Rattle.std.proofs.shelf.Lists.{getD-set-other}
+use Rattle.reclaim.specs.Cells.{all-pass, has, has-with}
+use Rattle.reclaim.specs.Model.{Lawful}
+use Rattle.reclaim.specs.Table.{Fits, cell, at}
+use Rattle.reclaim.specs.QuiescentStates.{Waiting, Record-table, quiescent, scheme, waits, recorded, strike, Inside-still, full}
+use Rattle.reclaim.proofs.CellLemmas.{has-map, distinct-map, below-map, with-map, with-++, with-weaker, pass-++, pass-map, Gone, gone-sub, gone-pass, removed-gone}
+use Rattle.reclaim.proofs.TableLaws.{set-each, same-protected, sound, entered, left, retired, collected}
 
-pub any-at : (bs : List Bool) (i : ℕ) → any bs ≡ false → getD bs i false ≡ false
-any-at [] i h = refl
-any-at (b ∷ bs) zero h = or-parts b (any bs) h .0
-any-at (b ∷ bs) (suc i) h = any-at bs i (or-parts b (any bs) h .1)
+-- an empty record has nobody, and another has somebody
+nobody-at : (bs : List Bool) (s : ℕ) → all-pass not bs ≡ true → getD bs s false ≡ false
+nobody-at [] s h = refl
+nobody-at (b ∷ bs) zero h = not-true b (and-parts (not b) (all-pass not bs) h .0)
+nobody-at (b ∷ bs) (suc s) h = nobody-at bs s (and-parts (not b) (all-pass not bs) h .1)
 
-pub any-of : (bs : List Bool) → any bs ≡ true → (i : ℕ) × (getD bs i false ≡ true)
-any-of [] h = absurd (grind arith)
-any-of (b ∷ bs) h =
-    ⊎-elim (λ (e : b ≡ true). (0, e)) (λ (e : any bs ≡ true). let r = any-of bs e in (suc (r .0), r .1)) (or-cases b (any bs) h)
+somebody : (bs : List Bool) → all-pass not bs ≡ false → (s : ℕ) × (getD bs s false ≡ true)
+somebody [] h = absurd (grind arith)
+somebody (true ∷ bs) h = (0, refl)
+somebody (false ∷ bs) h = let r = somebody bs h in (suc (r .0), r .1)
 
-pub any-hit : (bs : List Bool) (i : ℕ) → getD bs i false ≡ true → any bs ≡ true
-any-hit bs i h =
-    ⊎-elim (λ (e : any bs ≡ true). e) (λ (e : any bs ≡ false). absurd (both-ways (getD bs i false) (any-at bs i e) h)) (cases-bool (any bs))
+-- a record that a session is struck from
+struck-off : (bs : List Bool) (s : ℕ) → getD (set bs s false) s false ≡ false
+struck-off [] s = refl
+struck-off (b ∷ bs) zero = refl
+struck-off (b ∷ bs) (suc s) = struck-off bs s
 
-pub any-on : (bs : List Bool) (i : ℕ) → getD bs i false ≡ false → any (drop i bs) ≡ any bs → any (drop (i + 1) bs) ≡ any bs
-any-on bs i h inv =
-    ⊎-elim
-    (λ (l : i < length bs). let e = at-drop-more any bs i false l in grind arith)
-    (λ (l : length bs ≤ i). let e = at-drop-all any bs i l in let f = at-drop-all any bs (i + 1) (omega arith) in grind arith)
-    (cases-lt i (length bs))
+-- a session is in a record that was struck where it was, and the struck one in none
+pub out-of-all : (s : ℕ) (hs : List Waiting) (c : ℕ) → has-with cell (recorded s) (map (strike s) hs) c ≡ false
+out-of-all s [] c = refl
+out-of-all s (h ∷ hs) c = let i = out-of-all s hs c in let e = struck-off (h .note) s in grind arith
 
-pub any-end : (bs : List Bool) (i : ℕ) → length bs ≤ i → any (drop i bs) ≡ any bs → any bs ≡ false
-any-end bs i l inv = sym inv ∙ at-drop-all any bs i l
+others-stay : (s u : ℕ) (hs : List Waiting) (c : ℕ) → (s ≡ u → ⊥) → has-with cell (recorded u) hs c ≡ true → has-with cell (recorded u) (map (strike s) hs) c ≡ true
+others-stay s u hs c n h =
+    with-map cell (strike s) (λ x. refl) (recorded u) hs c
+    ∙ with-weaker cell (recorded u) (λ x. recorded u (strike s x)) (λ x k. getD-set-other (x .note) s u false false (λ e. n (sym e)) ∙ k) hs c h
 
--- a place after a strike
-pub struck-reads : (bs : List Bool) (s t : ℕ) → getD (set bs s false) t false ≡ (not (eqb s t) && getD bs t false)
-struck-reads bs s t =
-    ⊎-elim
-    (λ (l : s < length bs). let e = set-reads bs s t false false l in grind arith)
-    (λ (l : length bs ≤ s).
-    ⊎-elim
-    (λ (e : s ≡ t). let q = eq-eqb s t e in let p = getD-past bs t false (omega arith) in ap (λ y. getD y t false) (set-past bs s false l) ∙ (grind arith))
-    (λ (n : s ≡ t → ⊥). let q = ne-eqb s t n in ap (λ y. getD y t false) (set-past bs s false l) ∙ (grind arith))
-    (cases-eq s t))
-    (cases-lt s (length bs))
-
-pub quiescent-sound : (st : State) → Good st → Sound quiescent st
-quiescent-sound st g = record {
-  inside-below = λ s h. ⊎-elim (λ (l : s < st .sessions). l) (λ (l : st .sessions ≤ s). absurd (both-ways (getD (st .inside) s false) (g .5 s l) h)) (cases-lt s (st .sessions));
-  held-below = λ c h. has-below cell (st .held) (st .cells) c (g .3) h;
-  counted = counted cell (st .held) (st .cells) (g .4) (g .3);
-  outside-names = λ s i c h. h;
-  outside-keeps = λ s i c h. simp h;
-  kept-held = λ s i c h. with-has cell (has-record s) (st .held) c (and-parts (getD (st .inside) s false) (has-with cell (has-record s) (st .held) c) h .1);
-}
-
-pub quiescent-enter : (st : State) (s : ℕ) → Good st → s < st .sessions → getD (st .inside) s false ≡ false → Entered quiescent st s (enters st s)
-quiescent-enter st s g l f =
-    let w : s < length (st .inside) = omega (arith, g .0, g .2) in
-    let r : (t : ℕ) → getD (set (st .inside) s true) t false ≡ (eqb s t || getD (st .inside) t false) =
-    λ t. let e = set-reads (st .inside) s t true false w in grind arith in
-    let m : (t : ℕ) → getD (st .inside) t false ≡ true → getD (set (st .inside) s true) t false ≡ true = λ t h. let e = r t in grind arith in
-    record {
-      sizes = record {
-        good = (
-          g .0,
-          g .1,
-          length-set (st .inside) s true ∙ g .2,
-          g .3,
-          g .4,
-          (λ t k. let e = r t in let o = g .5 t k in let q = ne-eqb s t (λ p. omega arith) in grind arith),
-          (λ c t h. m t (g .6 c t h)),
-          g .7,
-        );
-        sessions = refl;
-        cells = refl;
-      };
-      inside = r;
-      held = λ c. refl;
-      slots = λ t i c. record {
-        names = λ h. m t h;
-        keeps = λ h. let q = and-parts (getD (st .inside) t false) (has-with cell (has-record t) (st .held) c) h in and-from _ _ (m t (q .0)) (q .1);
-      };
-    }
-
-pub quiescent-leave : (st : State) (s : ℕ) → Good st → getD (st .inside) s false ≡ true → Left quiescent st s (leaves st s)
-quiescent-leave st s g f =
-    let r : (t : ℕ) → getD (set (st .inside) s false) t false ≡ (not (eqb s t) && getD (st .inside) t false) = struck-reads (st .inside) s in
-    let m : (t c : ℕ) → has-with cell (has-record t) (map (strike s) (st .held)) c ≡ has-with cell (λ w. getD (set (w .users) s false) t false) (st .held) c =
-    λ t c. with-map cell (strike s) (λ w. refl) (has-record t) (st .held) c in
-    record {
-      sizes = record {
-        good = (
-          g .0,
-          g .1,
-          length-set (st .inside) s false ∙ g .2,
-          below-map cell (strike s) (λ w. refl) (st .held) (st .cells) ∙ g .3,
-          distinct-map cell (strike s) (λ w. refl) (st .held) ∙ g .4,
-          (λ t k. let e = r t in let o = g .5 t k in grind arith),
-          (λ c t h.
-              let n : (w : Waiting) → getD (set (w .users) s false) t false ≡ true → (has-record t w ≡ true) × (eqb s t ≡ false) =
-              λ w k. let e = struck-reads (w .users) s t in let p = and-parts (not (eqb s t)) (getD (w .users) t false) (sym e ∙ k) in (p .1, (let a = p .0 in grind arith)) in
-              let k = sym (m t c) ∙ h in
-              let a = g .6 c t (with-weaker cell (λ w. getD (set (w .users) s false) t false) (has-record t) (λ w x. n w x .0) (st .held) c k) in
-              let b : eqb s t ≡ false = apart-from s t c (st .held) k in
-              let e = r t in
-              grind arith),
-          pass-map full (strike s) (λ w h. let e = length-set (w .users) s false in eq-eqb _ _ (e ∙ eqb-true (length (w .users)) 8 h)) (st .held) (g .7),
-        );
-        sessions = refl;
-        cells = refl;
-      };
-      inside = r;
-      held = λ c. has-map cell (strike s) (λ w. refl) (st .held) c;
-      slots = λ t i c n.
-          let q = ne-eqb s t n in
-          let e = r t in
-          record {
-            names = λ h. grind arith;
-            keeps = λ h.
-                let p = and-parts (getD (st .inside) t false) (has-with cell (has-record t) (st .held) c) h in
-                let a = p .0 in
-                and-from _ _ (grind arith)
-                (m t c ∙ with-weaker cell (has-record t) (λ w. getD (set (w .users) s false) t false)
-                (λ w k. struck-reads (w .users) s t ∙ and-from _ _ (ap not q) k) (st .held) c (p .1));
-          };
-    }
+struck-was : (s u : ℕ) (hs : List Waiting) (c : ℕ) → has-with cell (recorded u) (map (strike s) hs) c ≡ true → has-with cell (recorded u) hs c ≡ true
+struck-was s u hs c h =
+    with-weaker cell (λ x. recorded u (strike s x)) (recorded u) (λ x k. was (x .note) k) hs c (sym (with-map cell (strike s) (λ x. refl) (recorded u) hs c) ∙ h)
   where
-    apart-from : (s t c : ℕ) (ws : List Waiting) → has-with cell (λ w. getD (set (w .users) s false) t false) ws c ≡ true → eqb s t ≡ false
-    apart-from s t c [] h = absurd (grind arith)
-    apart-from s t c (w ∷ ws) h =
+    was : (bs : List Bool) → getD (set bs s false) u false ≡ true → getD bs u false ≡ true
+    was bs k =
         ⊎-elim
-        (λ (p : (eqb (w .cell) c && getD (set (w .users) s false) t false) ≡ true).
-        let e = struck-reads (w .users) s t in
-        let k = and-parts (eqb (w .cell) c) (getD (set (w .users) s false) t false) p .1 in
-        grind arith)
-        (λ (p : has-with cell (λ w. getD (set (w .users) s false) t false) ws c ≡ true). apart-from s t c ws p)
-        (or-cases (eqb (w .cell) c && getD (set (w .users) s false) t false) (has-with cell (λ w. getD (set (w .users) s false) t false) ws c) h)
+        (λ (e : s ≡ u). absurd (both-ways (getD (set bs s false) u false) (ap (λ v. getD (set bs s false) v false) (sym e) ∙ struck-off bs s) k))
+        (λ (n : s ≡ u → ⊥). sym (getD-set-other bs s u false false (λ e. n (sym e))) ∙ k)
+        (cases-eq s u)
 
-pub quiescent-protect : (st : State) (s i c : ℕ) → Good st → getD (st .inside) s false ≡ true → i < 3 → c < st .cells → Protected quiescent st s i c st
-quiescent-protect st s i c g f li lc = record {
-  sizes = record { good = g; sessions = refl; cells = refl };
-  inside = λ t. refl;
-  held = λ d. refl;
-  named = f;
-  kept = λ j h. h;
-  slots = λ t j d n. record { names = λ h. h; keeps = λ h. h };
-}
+-- the records of a table where a session was struck, where a cell came and where one went
+pub struck-good : (bs : List Bool) (hs ks : List Waiting) (s : ℕ) → ks ≡ map (strike s) hs → Inside-still bs hs → all-pass full hs ≡ true → Inside-still bs ks × (all-pass full ks ≡ true)
+struck-good bs hs ks s e i f = (
+  (λ c u h. i c u (struck-was s u hs c (ap (λ l. has-with cell (recorded u) l c) (sym e) ∙ h))),
+  ap (all-pass full) e ∙ pass-map full (strike s) (λ x h. eq-eqb (length (set (x .note) s false)) 8 (length-set (x .note) s false ∙ eqb-true (length (x .note)) 8 h)) hs f,
+)
 
-pub quiescent-retire : (st : State) (c : ℕ) → Good st → c < st .cells → has cell (st .held) c ≡ false → Retired quiescent st c (retires st c)
-quiescent-retire st c g l f =
-    let w : Waiting = record { cell = c; users = st .inside } in
-    let p : (d : ℕ) → has cell (st .held ++ w ∷ []) d ≡ (eqb c d || has cell (st .held) d) = λ d. has-push cell (st .held) w d in
-    let q : (t d : ℕ) → has-with cell (has-record t) (st .held ++ w ∷ []) d ≡ (has-with cell (has-record t) (st .held) d || (eqb c d && getD (st .inside) t false)) =
-    λ t d. with-push cell (has-record t) (st .held) w d in
-    record {
-      sizes = record {
-        good = (
-          g .0,
-          g .1,
-          g .2,
-          below-push cell (st .held) w (st .cells) (g .3) l,
-          distinct-push cell (st .held) w (g .4) f,
-          g .5,
-          (λ d t h.
-              ⊎-elim (λ (k : has-with cell (has-record t) (st .held) d ≡ true). g .6 d t k)
-              (λ (k : (eqb c d && getD (st .inside) t false) ≡ true). and-parts (eqb c d) (getD (st .inside) t false) k .1)
-              (or-cases _ _ (sym (q t d) ∙ h))),
-          pass-push full (st .held) w (g .7) (eq-eqb _ _ (g .2)),
-        );
-        sessions = refl;
-        cells = refl;
-      };
-      inside = λ t. refl;
-      held = p;
-      kept = λ t i h. and-from _ _ h (let e = q t c in let z = eq-eqb c c refl in grind arith);
-      slots = λ t i d. record {
-        names = λ h. h;
-        keeps = λ h.
-            let a = and-parts (getD (st .inside) t false) (has-with cell (has-record t) (st .held) d) h in
-            and-from _ _ (a .0) (let e = q t d in let k = a .1 in grind arith);
-      };
-    }
+pub held-good : (bs : List Bool) (hs ks : List Waiting) (h : Waiting) → ks ≡ hs ++ h ∷ [] → length (h .note) ≡ 8 → ((s : ℕ) → getD (h .note) s false ≡ true → getD bs s false ≡ true)
+    → Inside-still bs hs → all-pass full hs ≡ true → Inside-still bs ks × (all-pass full ks ≡ true)
+held-good bs hs ks h e n w i f = (
+  (λ c s k.
+      ⊎-elim (λ (a : has-with cell (recorded s) hs c ≡ true). i c s a)
+      (λ (a : has-with cell (recorded s) (h ∷ []) c ≡ true). w s (let q = a in grind arith))
+      (or-cases (has-with cell (recorded s) hs c) (has-with cell (recorded s) (h ∷ []) c) (sym (ap (λ l. has-with cell (recorded s) l c) e ∙ with-++ cell (recorded s) hs (h ∷ []) c) ∙ k))),
+  (let a = ap (all-pass full) e ∙ pass-++ full hs (h ∷ []) in let b = eq-eqb (length (h .note)) 8 n in grind arith),
+)
 
-pub collected-good : (st : State) → Good st → Same-sizes quiescent st (collects st)
-collected-good st g = record {
-  good = (
-    g .0,
-    g .1,
-    g .2,
-    below-without cell waits (st .held) (st .cells) (g .3),
-    distinct-without cell waits (st .held) (g .4),
-    g .5,
-    (λ c s h. g .6 c s (with-sub cell (has-record s) waits (st .held) c h)),
-    pass-without full waits (st .held) (g .7),
-  );
-  sessions = refl;
-  cells = refl;
-}
+gone-good : (bs : List Bool) (hs : List Waiting) (x : Waiting) (ks : List Waiting) → Gone hs x ks → Inside-still bs hs × (all-pass full hs ≡ true) → Inside-still bs ks × (all-pass full ks ≡ true)
+gone-good bs hs x ks g good = ((λ c s h. good .0 c s (gone-sub cell hs x ks g (recorded s) c h)), gone-pass cell hs x ks g full (good .1))
 
--- who is waited for first is inside
-first-inside : (st : State) → Good st → oldest waits (st .held) ≡ None → ((c : ℕ) → has cell (st .held) c ≡ false) ⊎ ((s : ℕ) × (getD (st .inside) s false ≡ true))
-first-inside st g e = by (st .held) (g .6) e
-  where
-    by : (ws : List Waiting) → ((c s : ℕ) → has-with cell (has-record s) ws c ≡ true → getD (st .inside) s false ≡ true) → oldest waits ws ≡ None
-        → ((c : ℕ) → has cell ws c ≡ false) ⊎ ((s : ℕ) × (getD (st .inside) s false ≡ true))
-    by [] still e = inl (λ c. refl)
-    by (w ∷ ws) still e =
-        ⊎-elim
-        (λ (b : waits w ≡ true).
-        let r = any-of (w .users) b in
-        inr (r .0, still (w .cell) (r .0) (let a = eq-eqb (w .cell) (w .cell) refl in let k = r .1 in grind arith)))
-        (λ (b : waits w ≡ false). absurd (let z : Some w ≡ None = sym (ap (λ t. cond t (oldest waits ws) (Some w)) b) ∙ e in let y : _≡_ {A = ℕ} 0 1 = cc in omega arith))
-        (cases-bool (waits w))
-
-quiescent-collected : (st : State) (g : Good st) (o : Option Waiting) → oldest waits (st .held) ≡ o → Collected quiescent st (cell-of cell o) (collects st)
-quiescent-collected st g None e =
-    let w : without waits (st .held) ≡ st .held = without-none cell waits (st .held) e in
-    record {
-      sizes = collected-good st g;
-      inside = λ t. refl;
-      held = λ d. ap (λ l. has cell l d) w;
-      slots = λ t i d. record {
-        names = λ h. h;
-        keeps = λ h. ap (λ l. getD (st .inside) t false && has-with cell (has-record t) l d) w ∙ h;
-      };
-      why = first-inside st g e;
-    }
-quiescent-collected st g (Some x) e =
-    let p : (d : ℕ) → has cell (without waits (st .held)) d ≡ (not (eqb (x .cell) d) && has cell (st .held) d) =
-    λ d. has-without cell waits (st .held) x d (g .4) e in
-    record {
-      sizes = collected-good st g;
-      inside = λ t. refl;
-      was-held = oldest-has cell waits (st .held) x e;
-      not-kept = λ t i. let z = with-gone cell (has-record t) waits (st .held) x (λ w b. any-at (w .users) t b) (g .4) e in grind arith;
-      held = p;
-      named = λ t i d h. h;
-      kept = λ t i d n h.
-          let q = and-parts (getD (st .inside) t false) (has-with cell (has-record t) (st .held) d) h in
-          and-from _ _ (q .0) (with-other cell (has-record t) waits (st .held) x d n e (q .1));
-    }
+pub removed-good : (bs : List Bool) (hs ks : List Waiting) (i : ℕ) (d : Waiting) → i < length hs → ks ≡ removed hs i → Inside-still bs hs → all-pass full hs ≡ true → Inside-still bs ks × (all-pass full ks ≡ true)
+removed-good bs hs ks i d l e s f = gone-good bs hs (getD hs i d) ks (removed-gone hs ks i d l e) (s, f)
 
 pub quiescent-lawful : Lawful quiescent
 quiescent-lawful = record {
-  sound = quiescent-sound;
-  enter = quiescent-enter;
-  leave = quiescent-leave;
-  protect = quiescent-protect;
-  retire = quiescent-retire;
-  collect = λ st g. quiescent-collected st g (oldest waits (st .held)) refl;
+  sound = λ t f. sound scheme t f (λ s i c h. h);
+  enter = λ t s f l o. entered scheme t s true f l refl (λ i c. o) ((λ c u h. set-each (λ b. b ≡ true) (t .places) s u true false refl (f .more .0 c u h)), f .more .1);
+  leave = λ t s f h.
+      let g = struck-good (t .places) (t .held) (map (strike s) (t .held)) s refl (f .more .0) (f .more .1) in
+      left scheme t s false (map (strike s) (t .held)) f (sound scheme t f (λ s i c h. h) .inside-below s h) refl
+      (has-map cell (strike s) (λ x. refl) (t .held)) (below-map cell (strike s) (λ x. refl) (t .held) (t .cells) ∙ f .below) (distinct-map cell (strike s) (λ x. refl) (t .held) ∙ f .apart)
+      (λ u c n. others-stay s u (t .held) c n) (
+        (λ c u k.
+            ⊎-elim
+            (λ (e : s ≡ u). absurd (both-ways (has-with cell (recorded u) (map (strike s) (t .held)) c) (ap (λ v. has-with cell (recorded v) (map (strike s) (t .held)) c) (sym e) ∙ out-of-all s (t .held) c) k))
+            (λ (n : s ≡ u → ⊥). getD-set-other (t .places) s u false false (λ e. n (sym e)) ∙ g .0 c u k)
+            (cases-eq s u)),
+        g .1,
+      );
+  protect = λ t s i c f h li lc. same-protected quiescent t s i c f (λ j k. k) h;
+  retire = λ t c f l free.
+      retired scheme t c (t .places) f l free (λ u i h. h)
+      (held-good (t .places) (t .held) _ (record { cell = c; note = t .places }) refl (f .eight) (λ s h. h) (f .more .0) (f .more .1));
+  collect = λ t f.
+      collected scheme waits t f
+      (λ x b u i. and-right (getD (t .places) u false) (getD (x .note) u false) (nobody-at (x .note) u (not-false (all-pass not (x .note)) b)))
+      (λ x hs e b.
+      let r = somebody (x .note) (not-true (all-pass not (x .note)) b) in (
+        r .0,
+        f .more .0 (x .cell) (r .0)
+            (ap (λ l. has-with cell (recorded (r .0)) l (x .cell)) e ∙ (let a = eq-eqb (x .cell) (x .cell) refl in let k = r .1 in grind arith)),
+      ))
+      (λ x hs g. gone-good (t .places) (t .held) x hs g (f .more));
 }

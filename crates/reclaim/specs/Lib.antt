@@ -1,9 +1,10 @@
 pub mod Model
-pub mod Cells
-pub mod HazardPointers
-pub mod HazardOf
+pub mod Checks
+pub mod Refusals
 pub mod Made
+pub mod Cells
+pub mod Table
+pub mod HazardPointers
+pub mod Epochs
 pub mod QuiescentStates
-pub mod QuiescentOf
-pub mod Epoch
-pub mod EpochOf
+pub mod Views

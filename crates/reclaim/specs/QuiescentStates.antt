@@ -1,83 +1,58 @@
--- QuiescentStates states. Assumes nothing.
+-- Quiescent states: a held cell waits until every session has left that was inside when it was retired.
 use mathlib.Core.Path.{_≡_}
-use mathlib.Core.Bool.{Bool, true, false, cond, not, _||_, _&&_}
-use mathlib.Core.List.{List, [], _∷_, _++_, map}
-use Prim.Native.Nat.{ℕ, _+_, _≤_, _<_}
+use mathlib.Core.Bool.{Bool, true, false, not}
+use mathlib.Core.List.{List, map}
+use Prim.Native.Nat.{ℕ}
 use lib.Dec.{eqb}
-use lib.ListN.{length, getD, set, replicate}
+use lib.ListN.{length, getD, set}
+use Rattle.reclaim.specs.declared.held.HeldCell.{HeldCell}
+use Rattle.reclaim.specs.Cells.{all-pass, has-with, oldest, without, cell-of}
 use Rattle.reclaim.specs.Model.{Model}
-use Rattle.reclaim.specs.Cells.{all-pass, has, has-with, distinct, all-below, oldest, without, cell-of}
-use Rattle.reclaim.specs.HazardPointers.{None-past}
-use Rattle.reclaim.specs.declared.waiting.Waiting.{Waiting}
+use Rattle.reclaim.specs.Table.{Table, Scheme, cell, put, with-held, hold, model}
 
-pub record State : Type 0 where
-  pub sessions : ℕ
-  pub cells : ℕ
-  pub inside : List Bool
-  pub held : List Waiting
+abbrev pub is-inside : Bool → Bool
+is-inside b = b
 
-abbrev pub cell : Waiting → ℕ
-cell w = w .cell
+-- the note of a held cell is the record of those who have not left since, by session
+abbrev pub Waiting : Type 0
+Waiting = HeldCell (List Bool)
 
-abbrev pub any : List Bool → Bool
-any [] = false
-any (b ∷ bs) = b || any bs
+abbrev pub Record-table : Type 0
+Record-table = Table Bool (List Bool)
 
--- some session that was inside at the retirement has not left
+-- the record is not empty
 abbrev pub waits : Waiting → Bool
-waits w = any (w .users)
+waits h = not (all-pass not (h .note))
 
+abbrev pub recorded : ℕ → Waiting → Bool
+recorded s h = getD (h .note) s false
+
+-- session s goes out of the record
 abbrev pub strike : ℕ → Waiting → Waiting
-strike s w = record { cell = w .cell; users = set (w .users) s false }
-
-abbrev pub has-record : ℕ → Waiting → Bool
-has-record s w = getD (w .users) s false
+strike s h = record { cell = h .cell; note = set (h .note) s false }
 
 -- who is in a record is inside
 abbrev pub Inside-still : List Bool → List Waiting → Type 0
-Inside-still bs ws = (c s : ℕ) → has-with cell (has-record s) ws c ≡ true → getD bs s false ≡ true
+Inside-still bs hs = (c s : ℕ) → has-with cell (recorded s) hs c ≡ true → getD bs s false ≡ true
 
 -- a record has a place for every session
 abbrev pub full : Waiting → Bool
-full w = eqb (length (w .users)) 8
+full h = eqb (length (h .note)) 8
 
-abbrev pub Good : State → Type 0
-Good st = (st .sessions ≤ 8) × (st .cells ≤ 256) × (length (st .inside) ≡ 8)
-    × (all-below cell (st .cells) (st .held) ≡ true) × (distinct cell (st .held) ≡ true)
-    × None-past (st .sessions) (st .inside) × Inside-still (st .inside) (st .held) × (all-pass full (st .held) ≡ true)
-
-abbrev pub new : ℕ → ℕ → State
-new sessions cells = record { sessions = sessions; cells = cells; inside = replicate 8 false; held = [] }
-
-abbrev pub inside : State → ℕ → Bool
-inside st s = getD (st .inside) s false
-
-abbrev pub enters : State → ℕ → State
-enters st s = record { sessions = st .sessions; cells = st .cells; inside = set (st .inside) s true; held = st .held }
-
-abbrev pub leaves : State → ℕ → State
-leaves st s = record { sessions = st .sessions; cells = st .cells; inside = set (st .inside) s false; held = map (strike s) (st .held) }
-
-abbrev pub retires : State → ℕ → State
-retires st c = record { sessions = st .sessions; cells = st .cells; inside = st .inside; held = st .held ++ record { cell = c; users = st .inside } ∷ [] }
-
-abbrev pub collects : State → State
-collects st = record { sessions = st .sessions; cells = st .cells; inside = st .inside; held = without waits (st .held) }
-
-abbrev pub quiescent : Model State
-quiescent = record {
-  good = Good;
-  sessions = λ st. st .sessions;
-  cells = λ st. st .cells;
-  inside = inside;
-  held = λ st c. has cell (st .held) c;
-  count = λ st. length (st .held);
-  names = λ st s i c. inside st s;
-  keeps = λ st s i c. inside st s && has-with cell (has-record s) (st .held) c;
-  enters = enters;
-  leaves = leaves;
-  protects = λ st s i c. st;
-  retires = retires;
-  picks = λ st. cell-of cell (oldest waits (st .held));
-  collects = collects;
+abbrev pub scheme : Scheme Bool (List Bool)
+scheme = record {
+  beyond = false;
+  inside = is-inside;
+  names = λ b i c. b;
+  keeps = λ s b users. getD users s false;
+  good = λ t. Inside-still (t .places) (t .held) × (all-pass full (t .held) ≡ true);
+  enters = λ t s. put t s true;
+  leaves = λ t s. with-held (put t s false) (map (strike s) (t .held));
+  protects = λ t s i c. t;
+  retires = λ t c. hold t c (t .places);
+  picks = λ t. cell-of cell (oldest waits (t .held));
+  collects = λ t. with-held t (without waits (t .held));
 }
+
+abbrev pub quiescent : Model Record-table
+quiescent = model scheme

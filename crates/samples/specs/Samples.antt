@@ -1,5 +1,6 @@
 -- Sample schedules with what they answer, by the definitions that the contracts of board, reclaimers and orders use.
 use mathlib.Core.Path.{_≡_}
+use mathlib.Core.Bool.{false}
 use mathlib.Core.List.{List, [], _∷_, _++_}
 use Prim.Native.Nat.{ℕ, _+_, _*_, _^_}
 use lib.ListN.{length, replicate}
@@ -10,8 +11,9 @@ use Rattle.std.specs.declared.cmp.Ordering.the-variants.{Less}
 use Rattle.items.specs.Orders.{order-numbers, order-bytes}
 use Rattle.reclaim.specs.Model.{Model, after-enter, after-protect, after-retire}
 use Rattle.reclaim.specs.HazardPointers as hazard
-use Rattle.reclaim.specs.Epoch as epoch
+use Rattle.reclaim.specs.Epochs as epoch
 use Rattle.reclaim.specs.QuiescentStates as quiescent
+use Rattle.reclaim.specs.Table.{new}
 use Rattle.machine.specs.declared.answer.Answer.{Answer}
 use Rattle.machine.specs.declared.answer.Reason.the-variants.{NoCell}
 use Rattle.machine.specs.declared.stage.Stage.{Stage}
@@ -52,16 +54,16 @@ given M x (retires c ∷ calls) = given M (after-retire M x c) calls
 given M x (collects ∷ calls) = M .picks x ∷ given M (M .collects x) calls
 
 abbrev pub Holds : Sample → Type 0
-Holds (answers hazard-pointers s c items words out) = board-run hazard.hazard (hazard.new s c) items words .answers ≡ out
-Holds (answers epochs s c items words out) = board-run epoch.epoch (epoch.new s c) items words .answers ≡ out
-Holds (answers quiescent-states s c items words out) = board-run quiescent.quiescent (quiescent.new s c) items words .answers ≡ out
-Holds (stands hazard-pointers s c items words t g) = board-run hazard.hazard (hazard.new s c) items words .after .stage t ≡ g
-Holds (stands epochs s c items words t g) = board-run epoch.epoch (epoch.new s c) items words .after .stage t ≡ g
-Holds (stands quiescent-states s c items words t g) = board-run quiescent.quiescent (quiescent.new s c) items words .after .stage t ≡ g
+Holds (answers hazard-pointers s c items words out) = board-run hazard.hazard (new (hazard.empty-row false) s c) items words .answers ≡ out
+Holds (answers epochs s c items words out) = board-run epoch.epochs (new None s c) items words .answers ≡ out
+Holds (answers quiescent-states s c items words out) = board-run quiescent.quiescent (new false s c) items words .answers ≡ out
+Holds (stands hazard-pointers s c items words t g) = board-run hazard.hazard (new (hazard.empty-row false) s c) items words .after .stage t ≡ g
+Holds (stands epochs s c items words t g) = board-run epoch.epochs (new None s c) items words .after .stage t ≡ g
+Holds (stands quiescent-states s c items words t g) = board-run quiescent.quiescent (new false s c) items words .after .stage t ≡ g
 Holds (compares x y o) = order-bytes x y ≡ o
-Holds (gives hazard-pointers s c calls out) = given hazard.hazard (hazard.new s c) calls ≡ out
-Holds (gives epochs s c calls out) = given epoch.epoch (epoch.new s c) calls ≡ out
-Holds (gives quiescent-states s c calls out) = given quiescent.quiescent (quiescent.new s c) calls ≡ out
+Holds (gives hazard-pointers s c calls out) = given hazard.hazard (new (hazard.empty-row false) s c) calls ≡ out
+Holds (gives epochs s c calls out) = given epoch.epochs (new None s c) calls ≡ out
+Holds (gives quiescent-states s c calls out) = given quiescent.quiescent (new false s c) calls ≡ out
 
 abbrev pub All-hold : List Sample → Type 0
 All-hold [] = Unit {0}

@@ -12,7 +12,7 @@ use memory::Memory;
 use memory::complete;
 use memory::go_on;
 use memory::same_cell;
-use reclaim::reclaimer::Reclaimer;
+use reclaim::Reclaimer;
 
 // Reads the head and writes it into the fresh cell's link.
 pub fn push_read_head<R: Reclaimer>(memory: &mut Memory<R>, stage: &mut Stage, fresh: u8) -> Answer

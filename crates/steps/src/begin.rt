@@ -13,7 +13,7 @@ use machine::Search;
 use machine::Stage;
 use memory::Memory;
 use memory::go_on;
-use reclaim::reclaimer::Reclaimer;
+use reclaim::Reclaimer;
 
 // The session enters, and its operation is at its first stage.
 fn enter_at<R: Reclaimer>(

@@ -4,6 +4,6 @@ use lib.ListN.{take, drop}
 use Rattle.reclaim.specs.QuiescentStates.{strike}
 use Rattle.reclaim.proofs.quiescent.strike_all.Given as given
 
-abbrev pub Inv-loop-waiting : given.InvT-loop-waiting
-Inv-loop-waiting l =
-    l .waiting-items ≡ map (strike (l .session)) (take (l .waiting-index) (l .entry .waiting-items)) ++ drop (l .waiting-index) (l .entry .waiting-items)
+abbrev pub Inv-loop-held-cell : given.InvT-loop-held-cell
+Inv-loop-held-cell l =
+    l .held-cell-items ≡ map (strike (l .session)) (take (l .held-cell-index) (l .entry .held-cell-items)) ++ drop (l .held-cell-index) (l .entry .held-cell-items)

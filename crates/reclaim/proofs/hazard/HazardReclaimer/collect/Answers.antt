@@ -1,96 +1,58 @@
-use mathlib.Core.Path.{_≡_, refl, sym, ap, subst, _∙_}
-use mathlib.Core.Bool.{true, false}
-use mathlib.Core.List.{List}
-use Prim.Native.Nat.{ℕ, _<_, _≤_}
+use mathlib.Core.Path.{_≡_, sym, ap, _∙_}
+use Prim.Native.Nat.{ℕ, _+_, _<_}
 use native.Mathlib.Omega.{arith}
-use lib.ListN.{length, getD, drop}
+use borrow.Author.Count.{below-more}
+use lib.ListN.{length, getD}
+use Rattle.std.specs.declared.option.Option.the-variants.{None}
 use Rattle.std.specs.Of.Vec.{vec-items, vec-len}
-use Rattle.std.specs.declared.option.Option.the-variants.{Some, None}
-use Rattle.reclaim.specs.Cells.{itself, distinct, all-below, without, place, oldest}
-use Rattle.reclaim.specs.HazardOf.{of-table}
+use Rattle.std.proofs.shelf.Lists.{getD-read}
+use Rattle.reclaim.specs.declared.held.HeldCell.{HeldCell}
 use Rattle.reclaim.specs.declared.hazard.table.HazardPointers.{HazardPointers}
-use Rattle.reclaim.specs.HazardPointers.{State, no-row, stores, rows-store, collects}
-use Rattle.reclaim.proofs.CellLemmas.{place-on, place-stop, place-end, found, none-from, distinct-without, below-without}
-use Rattle.reclaim.proofs.HazardScan.{eq-stores, slot-on, slot-hit, slots-end, session-starts, sessions-end}
+use Rattle.reclaim.specs.HazardPointers.{stores, no-row}
+use Rattle.reclaim.specs.Views.{hazard-table}
+use Rattle.reclaim.proofs.HazardScan.{stored-at, scan-stops, scan-ends}
+use Rattle.reclaim.proofs.hazard.HazardReclaimer.collect.Choices.{Clear}
 use Rattle.reclaim.proofs.hazard.HazardReclaimer.collect.Needs as need
 
-pub loop-slot-holds : need.loop-slot-holds
-loop-slot-holds c = session-starts (c .held .self .rows) (c .loop-session .session) _ _ (omega (arith, c .held .self .«all_rows»)) (c .loop-session .inv)
-
-pub held-again : need.held-again
-held-again c =
-    let h = c .held .self in
-    let w : c .loop-session .session < length (h .rows) = omega (arith, h .«all_rows») in
-    let t = h .slots (c .loop-session .session) w in
-    let b : rows-store (h .rows) (c .index-cell .result .now) ≡ true =
-    slot-hit (getD (h .rows) (c .loop-session .session) no-row .slots) (c .loop-slot .slot) (c .index-cell .result .now) _ _ (omega (arith, t))
-    (eq-stores _ _ _ (c .if-eq .ensures tt)) (c .loop-slot .inv) in
-    (c .held .inv .0, sym (place-on (rows-store (h .rows)) (vec-items (h .held)) (c .held .at) (c .index-cell .result .now) (omega (arith, h .held .ok .0)) (c .index-cell .ensures) b) ∙ c .held .inv .1)
+abbrev none : HeldCell (Unit {0})
+none = record { cell = 0; note = tt }
 
 pub loop-slot-again : need.loop-slot-again
 loop-slot-again c =
-    let h = c .held .self in
-    let w : c .loop-session .session < length (h .rows) = omega (arith, h .«all_rows») in
-    let t = h .slots (c .loop-session .session) w in
-    slot-on (getD (h .rows) (c .loop-session .session) no-row .slots) (c .loop-slot .slot) (c .index-cell .result .now) _ _ (omega (arith, t))
-    (eq-stores _ _ _ (c .if-eq .ensures tt)) (c .loop-slot .inv)
+    let clear : Clear (c .held .self .rows) (c .index .result .now .cell) (c .loop-session .session) (c .loop-slot .slot + 1) =
+    below-more _ _ (c .loop-slot .inv .0) (sym (c .if-stores .ensures tt)) in
+    (clear, (λ l. below-more _ _ (c .loop-session .inv) (λ i m. clear i (omega arith))))
 
-pub loop-session-again : need.loop-session-again
-loop-session-again c =
-    let h = c .held .self in
-    let w : c .loop-session .session < length (h .rows) = omega (arith, h .«all_rows») in
-    let t = h .slots (c .loop-session .session) w in
-    slots-end (getD (h .rows) (c .loop-session .session) no-row .slots) (c .loop-slot .slot) (c .index-cell .result .now) _ _ (omega (arith, t)) (c .loop-slot .inv)
+-- the cell that is looked at, as the list has it
+looked-at : (h : HazardPointers) (at len : ℕ) (x : HeldCell (Unit {0})) → at < len → len ≡ vec-len (h .held .list) → x ≡ getD (vec-items (h .held .list)) at x
+    → (at < length (vec-items (h .held .list))) × (x ≡ getD (vec-items (h .held .list)) at none)
+looked-at h at len x l e is =
+    let m : at < length (vec-items (h .held .list)) = omega (arith, h .held .list .ok .0) in
+    (m, getD-read (vec-items (h .held .list)) at x m is none)
 
-place-found : (h : HazardPointers) (at session cell : ℕ) → at < length (vec-items (h .held)) → length (h .rows) ≤ session → cell ≡ getD (vec-items (h .held)) at cell
-    → rows-store (drop session (h .rows)) cell ≡ rows-store (h .rows) cell
-    → place (rows-store (h .rows)) (drop at (vec-items (h .held))) at ≡ place (rows-store (h .rows)) (vec-items (h .held)) 0
-    → place (rows-store (h .rows)) (vec-items (h .held)) 0 ≡ Some at
-place-found h at session cell l m e inv p =
-    sym p ∙ place-stop (rows-store (h .rows)) (vec-items (h .held)) at cell l e (sessions-end (h .rows) session cell _ m inv)
-
-pub ghost-self : need.ghost-self
-ghost-self c =
-    let h = c .held .self in
-    let f = found (rows-store (h .rows)) (vec-items (h .held)) (c .held .at)
-    (place-found h (c .held .at) (c .loop-session .session) (c .index-cell .result .now) (omega (arith, h .held .ok .0)) (omega (arith, h .«all_rows»)) (c .index-cell .ensures) (c .loop-session .inv) (c .held .inv .1)) in
-    let e : without (rows-store (h .rows)) (vec-items (h .held)) ≡ vec-items (c .remove .last .self) = f .2 ∙ sym (c .remove .ensures .items) in (
-      h .«few_sessions»,
-      (
-        h .«few_cells»,
-        (
-          h .«all_inside»,
-          (
-            h .«all_rows»,
-            (
-              subst (λ (l : List ℕ). all-below itself (h .cells) l ≡ true) e (below-without itself (rows-store (h .rows)) (vec-items (h .held)) (h .cells) (h .below)),
-              (
-                subst (λ (l : List ℕ). distinct itself l ≡ true) e (distinct-without itself (rows-store (h .rows)) (vec-items (h .held)) (h .apart)),
-                (h .past, (h .vacant, (h .slots, (omega (arith, h .room, c .remove .ensures .capacity), tt)))),
-              ),
-            ),
-          ),
-        ),
-      ),
+pub held-again : need.held-again
+held-again c =
+    let e = looked-at (c .held .self) (c .held .at) (c .len-at-end .result) (c .index .result .now) (c .held-test .taken)
+    (c .len-at-end .ensures ∙ sym (ap (λ (x : HazardPointers). vec-len (x .held .list)) (c .held .inv .0))) (c .index .ensures) .1 in (
+      c .held .inv .0,
+      below-more _ _ (c .held .inv .1)
+          (stored-at (c .held .self .rows) (c .loop-session .session) (c .loop-slot .slot) (c .index .result .now) (getD (c .held .self .held .list .items) (c .held .at) none) e (c .if-stores .ensures tt)),
     )
 
 pub returns-in-held : need.returns-in-held
 returns-in-held c =
     let h = c .held .self in
-    let f = found (rows-store (h .rows)) (vec-items (h .held)) (c .held .at)
-    (place-found h (c .held .at) (c .loop-session .session) (c .index-cell .result .now) (omega (arith, h .held .ok .0, ap (λ (x : HazardPointers). vec-len (x .held)) (c .held .inv .0))) (omega (arith, h .«all_rows»)) (c .index-cell .ensures) (c .loop-session .inv) (c .held .inv .1)) in
-    let e : vec-items (c .remove .last .self) ≡ without (rows-store (h .rows)) (vec-items (h .held)) = c .remove .ensures .items ∙ sym (f .2) in
-    let with-held : List ℕ → State = λ l. record { sessions = h .sessions; cells = h .cells; inside = h .inside; rows = h .rows; held = l } in
-    let s : of-table h ≡ of-table (c .args .self .now) = ap of-table (c .held .inv .0) in
-    record {
-      answer = ap (λ k. Some k) (c .remove .ensures .value) ∙ sym (f .1 (c .remove .result)) ∙ ap (λ (st : State). oldest (rows-store (st .rows)) (st .held)) s;
-      after = ap with-held e ∙ ap collects s;
-    }
+    let e = looked-at h (c .held .at) (c .len-at-end .result) (c .index .result .now) (c .held-test .taken)
+    (c .len-at-end .ensures ∙ sym (ap (λ (x : HazardPointers). vec-len (x .held .list)) (c .held .inv .0))) (c .index .ensures) in
+    let r = scan-stops (hazard-table h) (hazard-table (c .args .self .now)) (ap hazard-table (c .held .inv .0)) none (c .held .at) (c .give .result) (c .give .last .self .cells) (vec-items (c .give .last .self .list))
+    (e .0) (c .held .inv .1) (h .slots)
+    (λ s l j m. ap (λ (x : HeldCell (Unit {0})). stores (getD (getD (h .rows) s no-row .slots) j None) (x .cell)) (sym (e .1)) ∙ c .loop-session .inv s (omega (arith, h .eight)) j m)
+    (c .give .ensures .answer) (c .give .ensures .after) (c .give .ensures .same) in
+    record { answer = r .0; after = r .1 }
 
 pub returns : need.returns
 returns c =
     let h = c .held .self in
-    let f = none-from (rows-store (h .rows)) (vec-items (h .held)) 0 (sym (c .held .inv .1) ∙ place-end (rows-store (h .rows)) (vec-items (h .held)) (c .held .at) (omega (arith, h .held .ok .0, ap (λ (x : HazardPointers). vec-len (x .held)) (c .held .inv .0)))) in
-    let with-held : List ℕ → State = λ l. record { sessions = h .sessions; cells = h .cells; inside = h .inside; rows = h .rows; held = l } in
-    let s : of-table h ≡ of-table (c .args .self .now) = ap of-table (c .held .inv .0) in
-    record { answer = sym (f .0) ∙ ap (λ (st : State). oldest (rows-store (st .rows)) (st .held)) s; after = ap with-held (sym (f .1)) ∙ ap collects s }
+    let r = scan-ends (hazard-table h) (hazard-table (c .args .self .now)) (ap hazard-table (c .held .inv .0)) none (c .held .at)
+    (omega (arith, h .held .list .ok .0, ap (λ (x : HazardPointers). vec-len (x .held .list)) (c .held .inv .0))) (c .held .inv .1) in
+    record { answer = r .0; after = r .1 }

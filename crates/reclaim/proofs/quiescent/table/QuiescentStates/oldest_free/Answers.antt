@@ -1,36 +1,45 @@
-use mathlib.Core.Path.{_≡_, refl, sym, ap, _∙_}
-use mathlib.Core.Bool.{true, false}
+use mathlib.Core.Path.{_≡_, sym, ap, _∙_}
+use mathlib.Core.Bool.{not}
+use mathlib.Core.List.{List, []}
+use Prim.Native.Nat.{ℕ, _<_}
 use native.Mathlib.Omega.{arith}
-use Rattle.std.specs.Of.Vec.{vec-items}
-use Prim.Native.Nat.{_<_}
-use lib.ListN.{length}
+use borrow.Author.Count.{below-more}
+use lib.ListN.{length, getD}
+use Rattle.std.specs.Of.Vec.{vec-items, vec-len}
+use Rattle.std.proofs.shelf.Lists.{getD-read}
 use Rattle.std.proofs.shelf.Tests.{eqb-true}
-use Rattle.reclaim.specs.declared.waiting.Waiting.{Waiting}
-use Rattle.reclaim.specs.QuiescentStates.{waits, full}
-use Rattle.reclaim.proofs.CellLemmas.{pass-at, place-on, place-stop, place-end}
+use Rattle.reclaim.specs.declared.quiescent.table.QuiescentStates.{QuiescentStates}
+use Rattle.reclaim.specs.Table.{cell}
+use Rattle.reclaim.specs.QuiescentStates.{Waiting, waits, full}
+use Rattle.reclaim.proofs.CellLemmas.{pass-at, found-at, none-at}
 use Rattle.reclaim.proofs.quiescent.table.QuiescentStates.oldest_free.Needs as need
+
+abbrev none : Waiting
+none = record { cell = 0; note = [] }
+
+-- the cell that is looked at, as the list has it
+looked-at : (h : QuiescentStates) (at len : ℕ) (x : Waiting) → at < len → len ≡ vec-len (h .held .list) → x ≡ getD (vec-items (h .held .list)) at x
+    → (at < length (vec-items (h .held .list))) × (x ≡ getD (vec-items (h .held .list)) at none)
+looked-at h at len x l e is =
+    let m : at < length (vec-items (h .held .list)) = omega (arith, h .held .list .ok .0) in
+    (m, getD-read (vec-items (h .held .list)) at x m is none)
+
+pub returns-then-nobody : need.returns-then-nobody
+returns-then-nobody c =
+    let e = looked-at (c .args .self .now) (c .loop-at .at) (c .len-at-end .result) (c .index .result .now) (c .loop-at-test .taken) (c .len-at-end .ensures) (c .index .ensures) in
+    found-at cell waits (c .args .self .now .held .list .items) (c .loop-at .at) none (e .0) (c .loop-at .inv)
+    (sym (ap waits (e .1)) ∙ ap not (sym (c .if-nobody .ensures tt)))
 
 pub loop-at-again : need.loop-at-again
 loop-at-again c =
-    let h = c .args .self .now in
-    let b : waits (c .index .result .now) ≡ true = sym (c .if-not-anyone .ensures tt) in
-    sym (place-on waits (vec-items (h .held)) (c .loop-at .at) (c .index .result .now) (omega (arith, h .held .ok .0)) (c .index .ensures) b) ∙ c .loop-at .inv
-
-pub returns-then-not-anyone : need.returns-then-not-anyone
-returns-then-not-anyone c =
-    let h = c .args .self .now in
-    let b : waits (c .index .result .now) ≡ false = sym (c .if-not-anyone .ensures tt) in
-    sym (place-stop waits (vec-items (h .held)) (c .loop-at .at) (c .index .result .now) (omega (arith, h .held .ok .0)) (c .index .ensures) b) ∙ c .loop-at .inv
+    let e = looked-at (c .args .self .now) (c .loop-at .at) (c .len-at-end .result) (c .index .result .now) (c .loop-at-test .taken) (c .len-at-end .ensures) (c .index .ensures) in
+    below-more _ _ (c .loop-at .inv) (sym (ap waits (e .1)) ∙ ap not (sym (c .if-nobody .ensures tt)))
 
 pub returns : need.returns
-returns c =
-    let h = c .args .self .now in
-    sym (place-end waits (vec-items (h .held)) (c .loop-at .at) (omega (arith, h .held .ok .0))) ∙ c .loop-at .inv
+returns c = none-at cell waits (c .args .self .now .held .list .items) none (λ k l. c .loop-at .inv k (omega (arith, c .args .self .now .held .list .ok .0)))
 
-pub part-anyone-end : need.part-anyone-end
-part-anyone-end c =
+pub part-nobody-end : need.part-nobody-end
+part-nobody-end c =
     let h = c .args .self .now in
-    let w : Waiting = c .index .result .now in
-    let l : c .loop-at .at < length (vec-items (h .held)) = omega (arith, h .held .ok .0) in
-    let t : full w ≡ true = ap full (c .index .ensures) ∙ pass-at full (vec-items (h .held)) (c .loop-at .at) w l (h .«full_records») in
-    sym (eqb-true (length (w .users)) 8 t)
+    let e = looked-at (c .args .self .now) (c .loop-at .at) (c .len-at-end .result) (c .index .result .now) (c .loop-at-test .taken) (c .len-at-end .ensures) (c .index .ensures) in
+    sym (eqb-true (length (c .index .result .now .note)) 8 (ap full (e .1) ∙ pass-at full (c .args .self .now .held .list .items) (c .loop-at .at) none (e .0) (h .«full_records»)))
