@@ -18,7 +18,11 @@ pub(crate) fn cell<W: fmt::Write>(m: &Moment, cell: u8, f: &mut fmt::Formatter<W
 }
 
 // The link of prev.
-pub(crate) fn prev<W: fmt::Write>(m: &Moment, prev: Prev, f: &mut fmt::Formatter<W>) -> fmt::Result {
+pub(crate) fn prev<W: fmt::Write>(
+    m: &Moment,
+    prev: Prev,
+    f: &mut fmt::Formatter<W>,
+) -> fmt::Result {
     match prev {
         Prev::Front => {
             let target = Target(m.front);

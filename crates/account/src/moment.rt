@@ -37,9 +37,24 @@ fn cell_of(prev: Prev) -> Option<u8> {
 
 fn compared_in(at: Search) -> Option<u8> {
     match at {
-        Search::CheckPrev { prev, cur: _, marked: _, next: _, place: _ } => cell_of(prev),
-        Search::ConfirmCell { prev: _, cur, next: _, place: _ } => Some(cur),
-        Search::Unlink { prev, cur: _, next: _ } => cell_of(prev),
+        Search::CheckPrev {
+            prev,
+            cur: _,
+            marked: _,
+            next: _,
+            place: _,
+        } => cell_of(prev),
+        Search::ConfirmCell {
+            prev: _,
+            cur,
+            next: _,
+            place: _,
+        } => Some(cur),
+        Search::Unlink {
+            prev,
+            cur: _,
+            next: _,
+        } => cell_of(prev),
         _ => None,
     }
 }
@@ -48,9 +63,24 @@ fn compared_in(at: Search) -> Option<u8> {
 pub fn compared_at(stage: Stage) -> Option<u8> {
     match stage {
         Stage::Find { goal: _, at } => compared_in(at),
-        Stage::LinkFresh { sought: _, fresh: _, prev, cur: _ } => cell_of(prev),
-        Stage::MarkCell { sought: _, prev: _, cur, next: _ } => Some(cur),
-        Stage::RemoveCell { sought: _, prev, cur: _, next: _ } => cell_of(prev),
+        Stage::LinkFresh {
+            sought: _,
+            fresh: _,
+            prev,
+            cur: _,
+        } => cell_of(prev),
+        Stage::MarkCell {
+            sought: _,
+            prev: _,
+            cur,
+            next: _,
+        } => Some(cur),
+        Stage::RemoveCell {
+            sought: _,
+            prev,
+            cur: _,
+            next: _,
+        } => cell_of(prev),
         _ => None,
     }
 }

@@ -21,7 +21,13 @@ fn sought(goal: Goal) -> u16 {
 }
 
 fn starts_over(m: &Moment) -> bool {
-    matches!(m.after, Stage::Find { goal: _, at: Search::ReadFront })
+    matches!(
+        m.after,
+        Stage::Find {
+            goal: _,
+            at: Search::ReadFront
+        }
+    )
 }
 
 // The search ended without the item.
@@ -40,7 +46,10 @@ fn present<W: fmt::Write>(labels: &[String], goal: Goal, f: &mut fmt::Formatter<
     let name = item(labels, sought(goal));
     match goal {
         Goal::Look { sought: _ } => write!(f, "; decided: {name} is locked"),
-        Goal::Add { sought: _, fresh } => write!(f, "; decided: {name} is locked already, cell {fresh} goes back to the free cells"),
+        Goal::Add { sought: _, fresh } => write!(
+            f,
+            "; decided: {name} is locked already, cell {fresh} goes back to the free cells"
+        ),
         Goal::Take { sought: _ } => f.write_str("; it is to be marked"),
         Goal::Finish { sought: _ } => f.write_str("; the delete is complete"),
     }
@@ -50,15 +59,34 @@ fn present<W: fmt::Write>(labels: &[String], goal: Goal, f: &mut fmt::Formatter<
 fn found(m: &Moment, goal: Goal) -> bool {
     match goal {
         Goal::Look { sought: _ } => matches!(m.answer.kind, AnswerKind::Yes),
-        Goal::Add { sought: _, fresh: _ } => matches!(m.answer.kind, AnswerKind::No),
-        Goal::Take { sought: _ } => matches!(m.after, Stage::MarkCell { sought: _, prev: _, cur: _, next: _ }),
+        Goal::Add {
+            sought: _,
+            fresh: _,
+        } => matches!(m.answer.kind, AnswerKind::No),
+        Goal::Take { sought: _ } => matches!(
+            m.after,
+            Stage::MarkCell {
+                sought: _,
+                prev: _,
+                cur: _,
+                next: _
+            }
+        ),
         Goal::Finish { sought: _ } => true,
     }
 }
 
-fn read_front<W: fmt::Write>(m: &Moment, labels: &[String], goal: Goal, f: &mut fmt::Formatter<W>) -> fmt::Result {
+fn read_front<W: fmt::Write>(
+    m: &Moment,
+    labels: &[String],
+    goal: Goal,
+    f: &mut fmt::Formatter<W>,
+) -> fmt::Result {
     match m.after {
-        Stage::Find { goal: _, at: Search::ProtectFirst { cur } } => write!(f, "reads the front: cell {cur}"),
+        Stage::Find {
+            goal: _,
+            at: Search::ProtectFirst { cur },
+        } => write!(f, "reads the front: cell {cur}"),
         _ => {
             f.write_str("no locks")?;
             absent(labels, goal, f)
@@ -71,25 +99,66 @@ fn check_front<W: fmt::Write>(m: &Moment, cur: u8, f: &mut fmt::Formatter<W>) ->
         changed::prev(m, Prev::Front, f)?;
         return f.write_str("; searches again");
     }
-    write!(f, "the front still leads to cell {cur}, which may be touched now")
+    write!(
+        f,
+        "the front still leads to cell {cur}, which may be touched now"
+    )
 }
 
-fn contents<W: fmt::Write>(labels: &[String], cur: u8, marked: bool, next: Option<u8>, place: u16, f: &mut fmt::Formatter<W>) -> fmt::Result {
+fn contents<W: fmt::Write>(
+    labels: &[String],
+    cur: u8,
+    marked: bool,
+    next: Option<u8>,
+    place: u16,
+    f: &mut fmt::Formatter<W>,
+) -> fmt::Result {
     let name = item(labels, place);
     let mark = if marked { ", marked" } else { "" };
     let target = Target(next);
     write!(f, "reads cell {cur}: {name}{mark}, next {target}")
 }
 
-fn read_cell<W: fmt::Write>(m: &Moment, labels: &[String], cur: u8, f: &mut fmt::Formatter<W>) -> fmt::Result {
+fn read_cell<W: fmt::Write>(
+    m: &Moment,
+    labels: &[String],
+    cur: u8,
+    f: &mut fmt::Formatter<W>,
+) -> fmt::Result {
     match m.after {
-        Stage::Find { goal: _, at: Search::ProtectNext { prev: _, cur: _, marked, next, place } } => contents(labels, cur, marked, Some(next), place, f),
-        Stage::Find { goal: _, at: Search::CheckPrev { prev: _, cur: _, marked, next, place } } => contents(labels, cur, marked, next, place, f),
+        Stage::Find {
+            goal: _,
+            at: Search::ProtectNext {
+                prev: _,
+                cur: _,
+                marked,
+                next,
+                place,
+            },
+        } => contents(labels, cur, marked, Some(next), place, f),
+        Stage::Find {
+            goal: _,
+            at: Search::CheckPrev {
+                prev: _,
+                cur: _,
+                marked,
+                next,
+                place,
+            },
+        } => contents(labels, cur, marked, next, place, f),
         _ => write!(f, "reads cell {cur}"),
     }
 }
 
-fn check_prev<W: fmt::Write>(m: &Moment, labels: &[String], goal: Goal, prev: Prev, cur: u8, place: u16, f: &mut fmt::Formatter<W>) -> fmt::Result {
+fn check_prev<W: fmt::Write>(
+    m: &Moment,
+    labels: &[String],
+    goal: Goal,
+    prev: Prev,
+    cur: u8,
+    place: u16,
+    f: &mut fmt::Formatter<W>,
+) -> fmt::Result {
     if starts_over(m) {
         changed::prev(m, prev, f)?;
         return f.write_str("; searches again");
@@ -97,8 +166,26 @@ fn check_prev<W: fmt::Write>(m: &Moment, labels: &[String], goal: Goal, prev: Pr
     let name = item(labels, place);
     let wanted = item(labels, sought(goal));
     match m.after {
-        Stage::Find { goal: _, at: Search::Unlink { prev: _, cur: _, next: _ } } => write!(f, "cell {cur} is marked: it is to be unlinked"),
-        Stage::Find { goal: _, at: Search::ConfirmCell { prev: _, cur: _, next: _, place: _ } } => write!(f, "cell {cur} is still linked, and {name} is not past {wanted}"),
+        Stage::Find {
+            goal: _,
+            at: Search::Unlink {
+                prev: _,
+                cur: _,
+                next: _,
+            },
+        } => write!(f, "cell {cur} is marked: it is to be unlinked"),
+        Stage::Find {
+            goal: _,
+            at: Search::ConfirmCell {
+                prev: _,
+                cur: _,
+                next: _,
+                place: _,
+            },
+        } => write!(
+            f,
+            "cell {cur} is still linked, and {name} is not past {wanted}"
+        ),
         _ => {
             match prev {
                 Prev::Front => write!(f, "the first lock is {name}, past {wanted}")?,
@@ -109,15 +196,28 @@ fn check_prev<W: fmt::Write>(m: &Moment, labels: &[String], goal: Goal, prev: Pr
     }
 }
 
-fn confirm<W: fmt::Write>(m: &Moment, labels: &[String], goal: Goal, cur: u8, place: u16, f: &mut fmt::Formatter<W>) -> fmt::Result {
+fn confirm<W: fmt::Write>(
+    m: &Moment,
+    labels: &[String],
+    goal: Goal,
+    cur: u8,
+    place: u16,
+    f: &mut fmt::Formatter<W>,
+) -> fmt::Result {
     if starts_over(m) {
         changed::cell(m, cur, f)?;
         return f.write_str("; searches again");
     }
     let name = item(labels, place);
     let wanted = item(labels, sought(goal));
-    if let Stage::Find { goal: _, at: Search::ShiftPrev { cur: _, next } } = m.after {
-        return write!(f, "cell {cur} has {name}, before {wanted}; cell {next} may be touched now");
+    if let Stage::Find {
+        goal: _,
+        at: Search::ShiftPrev { cur: _, next },
+    } = m.after {
+        return write!(
+            f,
+            "cell {cur} has {name}, before {wanted}; cell {next} may be touched now"
+        );
     }
     if found(m, goal) {
         write!(f, "cell {cur} has {name}")?;
@@ -127,7 +227,15 @@ fn confirm<W: fmt::Write>(m: &Moment, labels: &[String], goal: Goal, cur: u8, pl
     absent(labels, goal, f)
 }
 
-fn unlink<W: fmt::Write>(m: &Moment, labels: &[String], goal: Goal, prev: Prev, cur: u8, next: Option<u8>, f: &mut fmt::Formatter<W>) -> fmt::Result {
+fn unlink<W: fmt::Write>(
+    m: &Moment,
+    labels: &[String],
+    goal: Goal,
+    prev: Prev,
+    cur: u8,
+    next: Option<u8>,
+    f: &mut fmt::Formatter<W>,
+) -> fmt::Result {
     if starts_over(m) {
         changed::prev(m, prev, f)?;
         return f.write_str(", the swap fails; searches again");
@@ -140,17 +248,46 @@ fn unlink<W: fmt::Write>(m: &Moment, labels: &[String], goal: Goal, prev: Prev, 
 }
 
 // A step of a search.
-pub(crate) fn step<W: fmt::Write>(m: &Moment, labels: &[String], goal: Goal, at: Search, f: &mut fmt::Formatter<W>) -> fmt::Result {
+pub(crate) fn step<W: fmt::Write>(
+    m: &Moment,
+    labels: &[String],
+    goal: Goal,
+    at: Search,
+    f: &mut fmt::Formatter<W>,
+) -> fmt::Result {
     match at {
         Search::ReadFront => read_front(m, labels, goal, f),
         Search::ProtectFirst { cur } => write!(f, "protects cell {cur} in slot 1"),
         Search::CheckFront { cur } => check_front(m, cur, f),
         Search::ReadCell { prev: _, cur } => read_cell(m, labels, cur, f),
-        Search::ProtectNext { prev: _, cur: _, marked: _, next, place: _ } => write!(f, "protects cell {next} in slot 0"),
-        Search::CheckPrev { prev, cur, marked: _, next: _, place } => check_prev(m, labels, goal, prev, cur, place, f),
-        Search::ConfirmCell { prev: _, cur, next: _, place } => confirm(m, labels, goal, cur, place, f),
-        Search::ShiftPrev { cur, next: _ } => write!(f, "protects cell {cur} in slot 2 as the one before"),
-        Search::ShiftCur { prev: _, next } => write!(f, "protects cell {next} in slot 1 and goes on to it"),
+        Search::ProtectNext {
+            prev: _,
+            cur: _,
+            marked: _,
+            next,
+            place: _,
+        } => write!(f, "protects cell {next} in slot 0"),
+        Search::CheckPrev {
+            prev,
+            cur,
+            marked: _,
+            next: _,
+            place,
+        } => check_prev(m, labels, goal, prev, cur, place, f),
+        Search::ConfirmCell {
+            prev: _,
+            cur,
+            next: _,
+            place,
+        } => confirm(m, labels, goal, cur, place, f),
+        Search::ShiftPrev { cur, next: _ } => write!(
+            f,
+            "protects cell {cur} in slot 2 as the one before"
+        ),
+        Search::ShiftCur { prev: _, next } => write!(
+            f,
+            "protects cell {next} in slot 1 and goes on to it"
+        ),
         Search::Unlink { prev, cur, next } => unlink(m, labels, goal, prev, cur, next, f),
     }
 }

@@ -16,15 +16,26 @@ fn pushed(op: Option<Op>) -> u16 {
     }
 }
 
-fn push_swap<W: fmt::Write>(m: &Moment, labels: &[String], fresh: u8, f: &mut fmt::Formatter<W>) -> fmt::Result {
+fn push_swap<W: fmt::Write>(
+    m: &Moment,
+    labels: &[String],
+    fresh: u8,
+    f: &mut fmt::Formatter<W>,
+) -> fmt::Result {
     match m.after {
         Stage::PushReadHead { fresh: _ } => {
             let now = Target(m.head);
-            write!(f, "the head is {now} now, the swap fails; reads the head again")
+            write!(
+                f,
+                "the head is {now} now, the swap fails; reads the head again"
+            )
         }
         _ => {
             let name = item(labels, pushed(m.op));
-            write!(f, "the head becomes cell {fresh}; decided: {name} is pushed")
+            write!(
+                f,
+                "the head becomes cell {fresh}; decided: {name} is pushed"
+            )
         }
     }
 }
@@ -38,17 +49,32 @@ fn pop_read<W: fmt::Write>(m: &Moment, f: &mut fmt::Formatter<W>) -> fmt::Result
 
 fn pop_check<W: fmt::Write>(m: &Moment, top: u8, f: &mut fmt::Formatter<W>) -> fmt::Result {
     match m.after {
-        Stage::PopReadTop { top: _ } => write!(f, "the head is still cell {top}, which may be touched now"),
+        Stage::PopReadTop { top: _ } => write!(
+            f,
+            "the head is still cell {top}, which may be touched now"
+        ),
         _ => {
             let now = Target(m.head);
-            write!(f, "the head is {now} now, not cell {top}; reads the head again")
+            write!(
+                f,
+                "the head is {now} now, not cell {top}; reads the head again"
+            )
         }
     }
 }
 
-fn pop_touch<W: fmt::Write>(m: &Moment, labels: &[String], top: u8, f: &mut fmt::Formatter<W>) -> fmt::Result {
+fn pop_touch<W: fmt::Write>(
+    m: &Moment,
+    labels: &[String],
+    top: u8,
+    f: &mut fmt::Formatter<W>,
+) -> fmt::Result {
     match m.after {
-        Stage::PopSwapHead { top: _, next, place } => {
+        Stage::PopSwapHead {
+            top: _,
+            next,
+            place,
+        } => {
             let name = item(labels, place);
             let below = Target(next);
             write!(f, "reads cell {top}: {name}, below it {below}")
@@ -57,22 +83,39 @@ fn pop_touch<W: fmt::Write>(m: &Moment, labels: &[String], top: u8, f: &mut fmt:
     }
 }
 
-fn pop_swap<W: fmt::Write>(m: &Moment, labels: &[String], top: u8, next: Option<u8>, place: u16, f: &mut fmt::Formatter<W>) -> fmt::Result {
+fn pop_swap<W: fmt::Write>(
+    m: &Moment,
+    labels: &[String],
+    top: u8,
+    next: Option<u8>,
+    place: u16,
+    f: &mut fmt::Formatter<W>,
+) -> fmt::Result {
     match m.answer.kind {
         AnswerKind::Yes => {
             let below = Target(next);
             let name = item(labels, place);
-            write!(f, "the head becomes {below}, cell {top} is unlinked and retired; decided: {name} is popped")
+            write!(
+                f,
+                "the head becomes {below}, cell {top} is unlinked and retired; decided: {name} is popped"
+            )
         }
         _ => {
             let now = Target(m.head);
-            write!(f, "the head is {now} now, not cell {top}, the swap fails; reads the head again")
+            write!(
+                f,
+                "the head is {now} now, not cell {top}, the swap fails; reads the head again"
+            )
         }
     }
 }
 
 // A step of a stage of the stack.
-pub(crate) fn step<W: fmt::Write>(m: &Moment, labels: &[String], f: &mut fmt::Formatter<W>) -> fmt::Result {
+pub(crate) fn step<W: fmt::Write>(
+    m: &Moment,
+    labels: &[String],
+    f: &mut fmt::Formatter<W>,
+) -> fmt::Result {
     match m.before {
         Stage::PushReadHead { fresh } => {
             let head = Target(m.head);

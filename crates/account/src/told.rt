@@ -31,7 +31,10 @@ fn refusal<W: fmt::Write>(m: &Moment, f: &mut fmt::Formatter<W>) -> fmt::Result 
         22 => f.write_str("the session is in no operation"),
         23 => {
             let ((held, _), _) = m.tallies;
-            write!(f, "no cell is free, and collect gives back none of the {held} held")
+            write!(
+                f,
+                "no cell is free, and collect gives back none of the {held} held"
+            )
         }
         _ => f.write_str("refused"),
     }
@@ -54,13 +57,21 @@ fn source<W: fmt::Write>(m: &Moment, f: &mut fmt::Formatter<W>) -> fmt::Result {
 fn with_fresh<W: fmt::Write>(m: &Moment, f: &mut fmt::Formatter<W>) -> fmt::Result {
     match m.after {
         Stage::PushReadHead { fresh } => write!(f, " with cell {fresh}")?,
-        Stage::Find { goal: Goal::Add { sought: _, fresh }, at: Search::ReadFront } => write!(f, " with cell {fresh}")?,
+        Stage::Find {
+            goal: Goal::Add { sought: _, fresh },
+            at: Search::ReadFront,
+        } => write!(f, " with cell {fresh}")?,
         _ => {}
     }
     source(m, f)
 }
 
-fn begin<W: fmt::Write>(m: &Moment, labels: &[String], op: Op, f: &mut fmt::Formatter<W>) -> fmt::Result {
+fn begin<W: fmt::Write>(
+    m: &Moment,
+    labels: &[String],
+    op: Op,
+    f: &mut fmt::Formatter<W>,
+) -> fmt::Result {
     match op {
         Op::Insert { place } => {
             let name = item(labels, place);
@@ -90,9 +101,24 @@ fn step<W: fmt::Write>(m: &Moment, labels: &[String], f: &mut fmt::Formatter<W>)
     }
     match m.before {
         Stage::Find { goal, at } => search::step(m, labels, goal, at, f),
-        Stage::LinkFresh { sought: _, fresh: _, prev: _, cur: _ } => ends::step(m, labels, f),
-        Stage::MarkCell { sought: _, prev: _, cur: _, next: _ } => ends::step(m, labels, f),
-        Stage::RemoveCell { sought: _, prev: _, cur: _, next: _ } => ends::step(m, labels, f),
+        Stage::LinkFresh {
+            sought: _,
+            fresh: _,
+            prev: _,
+            cur: _,
+        } => ends::step(m, labels, f),
+        Stage::MarkCell {
+            sought: _,
+            prev: _,
+            cur: _,
+            next: _,
+        } => ends::step(m, labels, f),
+        Stage::RemoveCell {
+            sought: _,
+            prev: _,
+            cur: _,
+            next: _,
+        } => ends::step(m, labels, f),
         _ => stack::step(m, labels, f),
     }
 }
@@ -104,8 +130,18 @@ pub impl fmt::Display for Told<'_> as ToldDisplay {
             return refusal(m, f);
         }
         match m.asked {
-            Ok(Word::Of { session: _, kind: Kind::Begin(op) }) => begin(m, self.labels, op, f),
-            Ok(Word::Of { session: _, kind: Kind::Step }) => step(m, self.labels, f),
+            Ok(
+                Word::Of {
+                    session: _,
+                    kind: Kind::Begin(op),
+                },
+            ) => begin(m, self.labels, op, f),
+            Ok(
+                Word::Of {
+                    session: _,
+                    kind: Kind::Step,
+                },
+            ) => step(m, self.labels, f),
             Ok(Word::Tidy) => tidied(m, f),
             Err(_) => refusal(m, f),
         }

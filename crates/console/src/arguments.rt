@@ -42,8 +42,15 @@ impl FileArguments {
 }
 
 // The file, which may be left out, and `--show` where the command knows it.
-pub fn file_arguments(rt: &LibcRuntime, args: Args, knows_show: bool) -> Result<FileArguments, Stop> {
-    let mut taken = FileArguments { path: None, show: false };
+pub fn file_arguments(
+    rt: &LibcRuntime,
+    args: Args,
+    knows_show: bool,
+) -> Result<FileArguments, Stop> {
+    let mut taken = FileArguments {
+        path: None,
+        show: false,
+    };
     for arg in args {
         taken.take(rt, arg, knows_show)?;
     }

@@ -47,7 +47,11 @@ pub struct Asked<'a> {
     pub labels: &'a [String],
 }
 
-fn with_item<W: fmt::Write>(asked: &Asked<'_>, name: &str, f: &mut fmt::Formatter<W>) -> fmt::Result {
+fn with_item<W: fmt::Write>(
+    asked: &Asked<'_>,
+    name: &str,
+    f: &mut fmt::Formatter<W>,
+) -> fmt::Result {
     let place = (asked.word % 65536) as u16;
     if (place as usize) < asked.labels.len() {
         let label = item(asked.labels, place);

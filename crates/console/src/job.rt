@@ -22,7 +22,11 @@ use std::alloc::Global;
 pub const MOST_STEPS: u32 = 1_000_000;
 
 pub trait Job {
-    fn go<R: Reclaimer + Drop, T: ItemOrder>(&mut self, made: Result<R, Unmade>, items: &[T]) -> Result<(), Stop>;
+    fn go<R: Reclaimer + Drop, T: ItemOrder>(
+        &mut self,
+        made: Result<R, Unmade>,
+        items: &[T],
+    ) -> Result<(), Stop>;
 }
 
 // A number of sessions as a reclaimer takes it; one past its range stays past it.
@@ -30,7 +34,12 @@ pub fn sessions_of(schedule: &Schedule) -> u8 {
     u8::try_from(schedule.sessions).unwrap_or(u8::MAX)
 }
 
-fn over<J: Job, T: ItemOrder>(heap: Global, schedule: &Schedule, items: &[T], job: &mut J) -> Result<(), Stop> {
+fn over<J: Job, T: ItemOrder>(
+    heap: Global,
+    schedule: &Schedule,
+    items: &[T],
+    job: &mut J,
+) -> Result<(), Stop> {
     let sessions = sessions_of(schedule);
     match schedule.reclaimer {
         Scheme::Hazard => job.go(HazardPointers::new(heap, sessions, schedule.cells), items),

@@ -26,7 +26,11 @@ fn file(rt: &LibcRuntime, path: &str) -> Result<Vec<u8>, Stop> {
 
 // Reads the schedule, or says what is wrong with it. The path `-` is standard input.
 pub fn schedule(rt: &LibcRuntime, path: &str) -> Result<Schedule, Stop> {
-    let bytes = if path == "-" { standard_input(rt)? } else { file(rt, path)? };
+    let bytes = if path == "-" {
+        standard_input(rt)?
+    } else {
+        file(rt, path)?
+    };
     match schedule::read(rt.alloc(), bytes.as_slice()) {
         Ok(schedule) => Ok(schedule),
         Err(Unread::TooLong) => {

@@ -10,9 +10,9 @@ use Rattle.schedule.specs.Words.{encoded}
 abbrev pub kind-drawn : ℕ → WordKind
 kind-drawn r =
     cond (ltb (r % 16) 4) Insert
-      (cond (ltb (r % 16) 8) Delete
-        (cond (ltb (r % 16) 12) Contains
-          (cond (ltb (r % 16) 14) Push Pop)))
+    (cond (ltb (r % 16) 8) Delete
+    (cond (ltb (r % 16) 12) Contains
+    (cond (ltb (r % 16) 14) Push Pop)))
 
 -- by the sixteen bits from bit 8 on
 abbrev pub place-drawn : ℕ → ℕ → ℕ

@@ -39,7 +39,13 @@ impl Driver {
         if sessions == 0 || sessions > 8 || keys == 0 {
             return None;
         }
-        Some(Driver { numbers: Generator { state: seed }, sessions, keys, busy: [false; 8], figures: Figures::new() })
+        Some(Driver {
+            numbers: Generator { state: seed },
+            sessions,
+            keys,
+            busy: [false; 8],
+            figures: Figures::new(),
+        })
     }
 
     // The session that a number draws.
@@ -68,7 +74,12 @@ impl Driver {
         }
     }
 
-    fn give<R: Reclaimer, T: ItemOrder>(&mut self, board: &mut Board<R>, items: &[T], word: u32) -> Answer {
+    fn give<R: Reclaimer, T: ItemOrder>(
+        &mut self,
+        board: &mut Board<R>,
+        items: &[T],
+        word: u32,
+    ) -> Answer {
         let answer = board.word(items, word);
         let (held, _) = board.tallies();
         self.figures.count(answer, held);
@@ -120,7 +131,13 @@ impl Driver {
     }
 
     // Drives a board for so many turns.
-    pub(crate) fn drive<R: Reclaimer, T: ItemOrder>(&mut self, board: &mut Board<R>, items: &[T], mode: Mode, turns: u64) {
+    pub(crate) fn drive<R: Reclaimer, T: ItemOrder>(
+        &mut self,
+        board: &mut Board<R>,
+        items: &[T],
+        mode: Mode,
+        turns: u64,
+    ) {
         for _ in 0..turns {
             match mode {
                 Mode::Whole => self.whole(board, items),

@@ -38,7 +38,13 @@ fn refused(kind: AnswerKind) -> u64
 
 impl Figures {
     pub(crate) fn new() -> Figures {
-        Figures { words: 0, operations: 0, refusals: 0, most_held: 0, sum: 0 }
+        Figures {
+            words: 0,
+            operations: 0,
+            refusals: 0,
+            most_held: 0,
+            sum: 0,
+        }
     }
 
     // Counts an answer, after which so many cells are held.

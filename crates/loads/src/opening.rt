@@ -19,7 +19,11 @@ pub fn unmade(why: Unmade) -> Reason
 }
 
 // A new board for lists of so many items, or why there is none.
-pub fn open<R: Reclaimer + Drop>(heap: Global, made: Result<R, Unmade>, items: usize) -> Result<Board<R>, Reason> {
+pub fn open<R: Reclaimer + Drop>(
+    heap: Global,
+    made: Result<R, Unmade>,
+    items: usize,
+) -> Result<Board<R>, Reason> {
     let reclaimer = match made {
         Ok(reclaimer) => reclaimer,
         Err(why) => return Err(unmade(why)),

@@ -16,7 +16,10 @@ pub impl fmt::Display for Load as LoadDisplay {
         let cells = self.cells;
         let sort = self.sort.name();
         let keys = self.keys;
-        write!(f, "{scheme} {sessions} sessions {cells} cells {sort} {keys} keys")
+        write!(
+            f,
+            "{scheme} {sessions} sessions {cells} cells {sort} {keys} keys"
+        )
     }
 }
 
@@ -28,14 +31,21 @@ pub impl fmt::Display for Report as ReportDisplay {
                 let number = why.code();
                 write!(f, "{load}: refused {number}")
             }
-            Outcome::Done { figures, held, free } => {
+            Outcome::Done {
+                figures,
+                held,
+                free,
+            } => {
                 let mode = load.mode.name();
                 let seed = load.seed;
                 let turns = load.turns;
                 let words = figures.words;
                 let operations = figures.operations;
                 let sum = figures.sum;
-                write!(f, "{load} {mode} seed {seed} turns {turns}: words {words} operations {operations} sum {sum:016x} held {held} free {free}")
+                write!(
+                    f,
+                    "{load} {mode} seed {seed} turns {turns}: words {words} operations {operations} sum {sum:016x} held {held} free {free}"
+                )
             }
         }
     }

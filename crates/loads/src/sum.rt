@@ -29,5 +29,8 @@ fn letter_number(kind: AnswerKind) -> u64
 pub fn mix_answer(sum: u64, answer: Answer) -> u64
     ensures { λ r. ⌜ r ≡ mixed sum (letter-number (answer .kind) * 65536 + answer .value) ⌝ }
 {
-    mix(sum, letter_number(answer.kind) * 65536 + u64::from(answer.value))
+    mix(
+        sum,
+        letter_number(answer.kind) * 65536 + u64::from(answer.value),
+    )
 }

@@ -25,11 +25,20 @@ use std::alloc::Global;
 #[derive(Clone, Copy)]
 pub enum Outcome {
     Refused(Reason),
-    Done { figures: Figures, held: u16, free: u16 },
+    Done {
+        figures: Figures,
+        held: u16,
+        free: u16,
+    },
 }
 
 // Over a reclaimer that was to be made.
-fn driven<R: Reclaimer + Drop, T: ItemOrder>(heap: Global, load: Load, made: Result<R, Unmade>, items: &[T]) -> Outcome {
+fn driven<R: Reclaimer + Drop, T: ItemOrder>(
+    heap: Global,
+    load: Load,
+    made: Result<R, Unmade>,
+    items: &[T],
+) -> Outcome {
     let mut board = match open(heap, made, items.len()) {
         Ok(board) => board,
         Err(why) => return Outcome::Refused(why),
@@ -39,15 +48,34 @@ fn driven<R: Reclaimer + Drop, T: ItemOrder>(heap: Global, load: Load, made: Res
     };
     driver.drive(&mut board, items, load.mode, load.turns);
     let (held, free) = board.tallies();
-    Outcome::Done { figures: driver.figures, held, free }
+    Outcome::Done {
+        figures: driver.figures,
+        held,
+        free,
+    }
 }
 
 // Over the items.
 fn over<T: ItemOrder>(heap: Global, load: Load, items: &[T]) -> Outcome {
     match load.scheme {
-        Scheme::Hazard => driven(heap, load, HazardPointers::new(heap, load.sessions, load.cells), items),
-        Scheme::Epoch => driven(heap, load, Epochs::new(heap, load.sessions, load.cells), items),
-        Scheme::Quiescent => driven(heap, load, QuiescentStates::new(heap, load.sessions, load.cells), items),
+        Scheme::Hazard => driven(
+            heap,
+            load,
+            HazardPointers::new(heap, load.sessions, load.cells),
+            items,
+        ),
+        Scheme::Epoch => driven(
+            heap,
+            load,
+            Epochs::new(heap, load.sessions, load.cells),
+            items,
+        ),
+        Scheme::Quiescent => driven(
+            heap,
+            load,
+            QuiescentStates::new(heap, load.sessions, load.cells),
+            items,
+        ),
     }
 }
 

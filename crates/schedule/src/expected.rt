@@ -50,10 +50,14 @@ pub impl fmt::Display for Expected as ExpectedDisplay {
             Expected::Number { most } => write!(f, "a number from 0 to {most}"),
             Expected::Scheme => f.write_str("hazard, epoch or quiescent"),
             Expected::ItemSort => f.write_str("numbers or bytes"),
-            Expected::ByteString => f.write_str("a byte string: quoted printable ASCII, or x and pairs of hexadecimal digits"),
+            Expected::ByteString => f.write_str(
+                "a byte string: quoted printable ASCII, or x and pairs of hexadecimal digits",
+            ),
             Expected::RawWord => f.write_str("a raw word: 0x and 1 to 8 hexadecimal digits"),
             Expected::ClosingQuote => f.write_str("a closing quote"),
-            Expected::GapAfterQuote => f.write_str("a space, a tab or the end of the line after the closing quote"),
+            Expected::GapAfterQuote => f.write_str(
+                "a space, a tab or the end of the line after the closing quote",
+            ),
             Expected::EndOfLine => f.write_str("the end of the line"),
             Expected::FewerWords { most } => write!(f, "at most {most} words in all"),
             about => about_header(about, f),

@@ -16,13 +16,7 @@ pub fn decimal(text: &str, most: u32) -> Option<u32>
         return None;
     }
     match text.parse::<u32>() {
-        Ok(n) => {
-            if n <= most {
-                Some(n)
-            } else {
-                None
-            }
-        }
+        Ok(n) => { if n <= most { Some(n) } else { None } }
         Err(_) => None,
     }
 }

@@ -30,6 +30,7 @@ use items::ByteString;
 use std::alloc::Global;
 
 const MOST_WORDS: u32 = 10_000_000;
+
 const MOST_STEPS: u32 = 1_000_000;
 
 // What has been read so far.
@@ -91,7 +92,9 @@ fn act(name: &str, tokens: &mut Tokens<'_>) -> Result<Act, Expected>
         return Ok(Act::Steps { session, count });
     }
     if name == "finish" {
-        return Ok(Act::Finish { session: session(tokens)? });
+        return Ok(Act::Finish {
+            session: session(tokens)?,
+        });
     }
     if !name.starts_with("0x") {
         return Err(Expected::Name);
@@ -215,7 +218,11 @@ impl Draft {
         if act.words() > MOST_WORDS - self.words {
             return Err(Fault::Bad(Expected::FewerWords { most: MOST_WORDS }));
         }
-        self.lines.push(Line { number: self.number, act })?;
+        self.lines
+            .push(Line {
+                number: self.number,
+                act,
+            })?;
         self.words += act.words();
         Ok(())
     }
@@ -239,7 +246,10 @@ impl Draft {
         self.number = self.number.saturating_add(1);
         match self.line(bytes) {
             Ok(()) => Ok(()),
-            Err(Fault::Bad(expected)) => Err(Unread::Bad { line: self.number, expected }),
+            Err(Fault::Bad(expected)) => Err(Unread::Bad {
+                line: self.number,
+                expected,
+            }),
             Err(Fault::Memory) => Err(Unread::Memory),
         }
     }
@@ -247,14 +257,41 @@ impl Draft {
     // The schedule, once all lines have been taken.
     fn done(self) -> Result<Schedule, Unread> {
         let missing = self.missing().unwrap_or(Header::Items);
-        let Draft { heap: _, number, reclaimer, sessions, cells, items, labels, too_long, lines, words } = self;
-        let (Some(reclaimer), Some(sessions), Some(cells), Some(items)) = (reclaimer, sessions, cells, items) else {
-            return Err(Unread::Bad { line: number.saturating_add(1), expected: Expected::Header(missing) });
+        let Draft {
+            heap: _,
+            number,
+            reclaimer,
+            sessions,
+            cells,
+            items,
+            labels,
+            too_long,
+            lines,
+            words,
+        } = self;
+        let (Some(reclaimer), Some(sessions), Some(cells), Some(items)) = (
+            reclaimer,
+            sessions,
+            cells,
+            items,
+        ) else {
+            return Err(Unread::Bad {
+                line: number.saturating_add(1),
+                expected: Expected::Header(missing),
+            });
         };
         if too_long {
             return Err(Unread::TooLong);
         }
-        Ok(Schedule { reclaimer, sessions, cells, items, labels, lines, words })
+        Ok(Schedule {
+            reclaimer,
+            sessions,
+            cells,
+            items,
+            labels,
+            lines,
+            words,
+        })
     }
 }
 

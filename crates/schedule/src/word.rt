@@ -77,5 +77,7 @@ pub fn encode(kind: WordKind, session: u8, place: u16) -> u32
     ensures number { λ r. ⌜ r ≡ encoded kind session place ⌝ }
     ensures back { λ r. ⌜ ((sessions items : ℕ) → Fitting kind session place sessions items → parsed r sessions items ≡ Ok (meant kind session place)) ⌝ }
 {
-    u32::from(kind.number()) * 0x2000_0000 + u32::from(session % 32) * 0x0100_0000 + u32::from(place)
+    u32::from(kind.number()) * 0x2000_0000
+        + u32::from(session % 32) * 0x0100_0000
+        + u32::from(place)
 }

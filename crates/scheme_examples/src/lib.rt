@@ -52,7 +52,6 @@ mod tests {
     use reclaim::QuiescentReclaimer;
     use reclaim::QuiescentStates;
     use reclaim::RefusalDebug;
-    use reclaim::RefusalPartialEq;
     use reclaim::Unmade;
     use reclaim::UnmadeDebug;
     use std::cmp::Ordering;
@@ -69,7 +68,11 @@ mod tests {
         check_eq(empty.compare(&a), Ordering::Less)?;
         check_eq(ab.compare(&abc), Ordering::Less)?;
         check_eq(low.compare(&high), Ordering::Less)?;
-        check(ByteString::new(b"twelve bytes").is_err())
+        check_eq(abc.as_bytes(), b"ABC")?;
+        match ByteString::new(b"twelve bytes") {
+            Ok(_) => check(false),
+            Err(too_long) => check_eq(too_long.code(), 4),
+        }
     }
 
     #[test]
@@ -127,21 +130,38 @@ mod tests {
         }
     }
 
-    // Both have two sessions, and the large one has a cell more than the small one's three.
+    fn code_of(refused: Option<Refusal>) -> u16 {
+        match refused {
+            Some(why) => why.code(),
+            None => 0,
+        }
+    }
+
+    // Two sessions, and cells 0 to 2 in the small one, 0 to 3 in the large one.
     fn refuse_in_order<R: Reclaimer>(small: &mut R, large: &mut R) -> Result<(), Fail> {
-        check_eq(number(small.enter(2)), 31)?;
-        check_eq(number(small.enter(0)), 0)?;
-        check_eq(number(small.enter(0)), 34)?;
-        check_eq(number(small.leave(2)), 31)?;
-        check_eq(number(small.leave(1)), 35)?;
-        check_eq(number(small.protect(2, 3, 3)), 31)?;
-        check_eq(number(small.protect(1, 3, 3)), 35)?;
-        check_eq(number(small.protect(0, 3, 3)), 32)?;
-        check_eq(number(small.protect(0, 2, 3)), 33)?;
-        check_eq(offer(large, small, 2), None)?;
-        check_eq(offer(large, small, 3), Some(Refusal::NoCell))?;
-        check_eq(offer(large, small, 2), Some(Refusal::AlreadyHeld))?;
-        check(small.is_inside(0) && !small.is_inside(1) && !small.is_inside(255))?;
+        let enters = [
+            number(small.enter(2)),
+            number(small.enter(0)),
+            number(small.enter(0)),
+        ];
+        check_eq(enters, [31, 0, 34])?;
+        let leaves = [number(small.leave(2)), number(small.leave(1))];
+        check_eq(leaves, [31, 35])?;
+        let protects = [
+            number(small.protect(2, 3, 3)),
+            number(small.protect(1, 3, 3)),
+            number(small.protect(0, 3, 3)),
+            number(small.protect(0, 2, 3)),
+        ];
+        check_eq(protects, [31, 35, 32, 33])?;
+        let retires = [
+            code_of(offer(large, small, 2)),
+            code_of(offer(large, small, 3)),
+            code_of(offer(large, small, 2)),
+        ];
+        check_eq(retires, [0, 33, 36])?;
+        let inside = [small.is_inside(0), small.is_inside(1), small.is_inside(255)];
+        check_eq(inside, [true, false, false])?;
         check(small.is_held(2) && !small.is_held(3) && small.held_count() == 1)
     }
 

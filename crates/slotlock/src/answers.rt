@@ -1,4 +1,6 @@
 // `slotlock answers`: a line for each word with its answer, then the tallies.
+use board::Board;
+use board::Unopened;
 use console::Job;
 use console::MOST_STEPS;
 use console::Stop;
@@ -9,8 +11,6 @@ use console::file_arguments;
 use console::refused;
 use console::source;
 use console::with_schedule;
-use board::Board;
-use board::Unopened;
 use items::ItemOrder;
 use machine::Answer;
 use machine::AnswerKind;
@@ -85,7 +85,13 @@ struct Answers<'a> {
 }
 
 // Runs words that were put by, and forgets them.
-fn run_stretch<R: Reclaimer, T: ItemOrder, W: Write>(heap: Global, out: &mut W, board: &mut Board<R>, items: &[T], words: &mut Vec<u32>) -> Result<(), Stop> {
+fn run_stretch<R: Reclaimer, T: ItemOrder, W: Write>(
+    heap: Global,
+    out: &mut W,
+    board: &mut Board<R>,
+    items: &[T],
+    words: &mut Vec<u32>,
+) -> Result<(), Stop> {
     let mut answers = Vec::from_elem(heap, Answer::no(), words.len())?;
     let _ = board.run(items, words.as_slice(), answers.as_mut_slice());
     print_all(out, answers.as_slice())?;
@@ -94,7 +100,12 @@ fn run_stretch<R: Reclaimer, T: ItemOrder, W: Write>(heap: Global, out: &mut W, 
 }
 
 // Gives step words to a session until one is answered otherwise than under way.
-fn finish<R: Reclaimer, T: ItemOrder, W: Write>(out: &mut W, board: &mut Board<R>, items: &[T], session: u8) -> Result<(), Stop> {
+fn finish<R: Reclaimer, T: ItemOrder, W: Write>(
+    out: &mut W,
+    board: &mut Board<R>,
+    items: &[T],
+    session: u8,
+) -> Result<(), Stop> {
     for _ in 0..MOST_STEPS {
         let answer = board.word(items, encode(WordKind::Step, session, 0));
         print(out, answer)?;
@@ -114,7 +125,11 @@ fn all_words(heap: Global, schedule: &Schedule) -> Result<Vec<u32>, Stop> {
     Ok(words)
 }
 
-fn print_run<R: Reclaimer>(rt: &LibcRuntime, answers: &[Answer], board: &Board<R>) -> Result<(), Stop> {
+fn print_run<R: Reclaimer>(
+    rt: &LibcRuntime,
+    answers: &[Answer],
+    board: &Board<R>,
+) -> Result<(), Stop> {
     let mut out = BufWriter::new(rt.stdout());
     print_all(&mut out, answers)?;
     print_tallies(&mut out, board)?;
@@ -123,7 +138,13 @@ fn print_run<R: Reclaimer>(rt: &LibcRuntime, answers: &[Answer], board: &Board<R
 }
 
 // Stretches of plain words, and between them what `finish` asks for.
-fn in_stretches<R: Reclaimer, T: ItemOrder, W: Write>(heap: Global, out: &mut W, board: &mut Board<R>, items: &[T], schedule: &Schedule) -> Result<(), Stop> {
+fn in_stretches<R: Reclaimer, T: ItemOrder, W: Write>(
+    heap: Global,
+    out: &mut W,
+    board: &mut Board<R>,
+    items: &[T],
+    schedule: &Schedule,
+) -> Result<(), Stop> {
     let mut words = Vec::new(heap);
     for line in schedule.lines.iter() {
         match line.act {
@@ -139,7 +160,12 @@ fn in_stretches<R: Reclaimer, T: ItemOrder, W: Write>(heap: Global, out: &mut W,
 
 impl Answers<'_> {
     // All words in one call.
-    fn play<R: Reclaimer + Drop, T: ItemOrder>(&self, reclaimer: R, items: &[T], words: &[u32]) -> Result<(), Stop> {
+    fn play<R: Reclaimer + Drop, T: ItemOrder>(
+        &self,
+        reclaimer: R,
+        items: &[T],
+        words: &[u32],
+    ) -> Result<(), Stop> {
         let heap = self.rt.alloc();
         let mut answers = Vec::from_elem(heap, Answer::no(), words.len())?;
         match board::play(heap, reclaimer, items, words, answers.as_mut_slice()) {
@@ -149,7 +175,11 @@ impl Answers<'_> {
     }
 
     // Stretch by stretch on an open board.
-    fn stretches<R: Reclaimer, T: ItemOrder>(&self, board: &mut Board<R>, items: &[T]) -> Result<(), Stop> {
+    fn stretches<R: Reclaimer, T: ItemOrder>(
+        &self,
+        board: &mut Board<R>,
+        items: &[T],
+    ) -> Result<(), Stop> {
         let mut out = BufWriter::new(self.rt.stdout());
         in_stretches(self.rt.alloc(), &mut out, board, items, self.schedule)?;
         print_tallies(&mut out, board)?;
@@ -159,7 +189,11 @@ impl Answers<'_> {
 }
 
 impl Job for Answers<'_> as AnswersJob {
-    fn go<R: Reclaimer + Drop, T: ItemOrder>(&mut self, made: Result<R, Unmade>, items: &[T]) -> Result<(), Stop> {
+    fn go<R: Reclaimer + Drop, T: ItemOrder>(
+        &mut self,
+        made: Result<R, Unmade>,
+        items: &[T],
+    ) -> Result<(), Stop> {
         if finishes(self.schedule) {
             return match loads::open(self.rt.alloc(), made, items.len()) {
                 Ok(mut board) => self.stretches(&mut board, items),

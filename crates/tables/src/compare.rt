@@ -56,10 +56,22 @@ struct Row {
 
 fn open(heap: Global, schedule: &Schedule, items: usize) -> Result<Boards, Reason> {
     let sessions = sessions_of(schedule);
-    let hazard = loads::open(heap, HazardPointers::new(heap, sessions, schedule.cells), items)?;
+    let hazard = loads::open(
+        heap,
+        HazardPointers::new(heap, sessions, schedule.cells),
+        items,
+    )?;
     let epoch = loads::open(heap, Epochs::new(heap, sessions, schedule.cells), items)?;
-    let quiescent = loads::open(heap, QuiescentStates::new(heap, sessions, schedule.cells), items)?;
-    Ok(Boards { hazard, epoch, quiescent })
+    let quiescent = loads::open(
+        heap,
+        QuiescentStates::new(heap, sessions, schedule.cells),
+        items,
+    )?;
+    Ok(Boards {
+        hazard,
+        epoch,
+        quiescent,
+    })
 }
 
 // Whether a `finish` goes on after its last answer.
@@ -70,8 +82,17 @@ fn goes_on(last: Option<Answer>) -> bool {
     }
 }
 
-fn step_if<R: Reclaimer, T: ItemOrder>(board: &mut Board<R>, items: &[T], word: u32, goes_on: bool) -> Option<Answer> {
-    if goes_on { Some(board.word(items, word)) } else { None }
+fn step_if<R: Reclaimer, T: ItemOrder>(
+    board: &mut Board<R>,
+    items: &[T],
+    word: u32,
+    goes_on: bool,
+) -> Option<Answer> {
+    if goes_on {
+        Some(board.word(items, word))
+    } else {
+        None
+    }
 }
 
 impl Boards {
@@ -129,7 +150,10 @@ impl fmt::Display for Column as ColumnDisplay {
     fn fmt<W: fmt::Write>(&self, f: &mut fmt::Formatter<W>) -> fmt::Result {
         match self.0 {
             Some(answer) => {
-                let answered = Answered { answer, pops: answer.value != 0 };
+                let answered = Answered {
+                    answer,
+                    pops: answer.value != 0,
+                };
                 write!(f, "{answered}")
             }
             None => f.write_str("-"),
@@ -159,7 +183,14 @@ impl Progress {
     }
 }
 
-fn print<W: Write>(heap: Global, out: &mut W, labels: &[String], progress: &mut Progress, word: u32, row: Row) -> Result<(), Stop> {
+fn print<W: Write>(
+    heap: Global,
+    out: &mut W,
+    labels: &[String],
+    progress: &mut Progress,
+    word: u32,
+    row: Row,
+) -> Result<(), Stop> {
     let mark = progress.mark(row);
     let number = progress.rows;
     let who = Who(word);
@@ -167,7 +198,10 @@ fn print<W: Write>(heap: Global, out: &mut W, labels: &[String], progress: &mut 
     let hazard = format!(heap, "{}", Column(row.hazard))?;
     let epoch = format!(heap, "{}", Column(row.epoch))?;
     let quiescent = format!(heap, "{}", Column(row.quiescent))?;
-    writeln!(out, "{number:>4}  {who}   {asked:<16}  {hazard:<10}  {epoch:<10}  {quiescent:<10}{mark}")?;
+    writeln!(
+        out,
+        "{number:>4}  {who}   {asked:<16}  {hazard:<10}  {epoch:<10}  {quiescent:<10}{mark}"
+    )?;
     Ok(())
 }
 
@@ -178,25 +212,60 @@ struct Comparison<'a> {
 }
 
 impl Comparison<'_> {
-    fn word<T: ItemOrder, W: Write>(&self, out: &mut W, boards: &mut Boards, items: &[T], progress: &mut Progress, word: u32) -> Result<Row, Stop> {
+    fn word<T: ItemOrder, W: Write>(
+        &self,
+        out: &mut W,
+        boards: &mut Boards,
+        items: &[T],
+        progress: &mut Progress,
+        word: u32,
+    ) -> Result<Row, Stop> {
         let row = boards.give(items, word);
-        print(self.rt.alloc(), out, self.schedule.labels.as_slice(), progress, word, row)?;
+        print(
+            self.rt.alloc(),
+            out,
+            self.schedule.labels.as_slice(),
+            progress,
+            word,
+            row,
+        )?;
         Ok(row)
     }
 
-    fn finish<T: ItemOrder, W: Write>(&self, out: &mut W, boards: &mut Boards, items: &[T], progress: &mut Progress, word: u32) -> Result<(), Stop> {
+    fn finish<T: ItemOrder, W: Write>(
+        &self,
+        out: &mut W,
+        boards: &mut Boards,
+        items: &[T],
+        progress: &mut Progress,
+        word: u32,
+    ) -> Result<(), Stop> {
         let mut row = self.word(out, boards, items, progress, word)?;
         for _ in 1..MOST_STEPS {
             if row.ended() {
                 return Ok(());
             }
             row = boards.go_on(items, word, row);
-            print(self.rt.alloc(), out, self.schedule.labels.as_slice(), progress, word, row)?;
+            print(
+                self.rt.alloc(),
+                out,
+                self.schedule.labels.as_slice(),
+                progress,
+                word,
+                row,
+            )?;
         }
         Ok(())
     }
 
-    fn act<T: ItemOrder, W: Write>(&self, out: &mut W, boards: &mut Boards, items: &[T], progress: &mut Progress, act: Act) -> Result<(), Stop> {
+    fn act<T: ItemOrder, W: Write>(
+        &self,
+        out: &mut W,
+        boards: &mut Boards,
+        items: &[T],
+        progress: &mut Progress,
+        act: Act,
+    ) -> Result<(), Stop> {
         match act {
             Act::Word(word) => {
                 self.word(out, boards, items, progress, word)?;
@@ -204,17 +273,40 @@ impl Comparison<'_> {
             }
             Act::Steps { session, count } => {
                 for _ in 0..count {
-                    self.word(out, boards, items, progress, encode(WordKind::Step, session, 0))?;
+                    self.word(
+                        out,
+                        boards,
+                        items,
+                        progress,
+                        encode(WordKind::Step, session, 0),
+                    )?;
                 }
                 Ok(())
             }
-            Act::Finish { session } => self.finish(out, boards, items, progress, encode(WordKind::Step, session, 0)),
+            Act::Finish { session } => self.finish(
+                out,
+                boards,
+                items,
+                progress,
+                encode(WordKind::Step, session, 0),
+            ),
         }
     }
 
-    fn rows<T: ItemOrder, W: Write>(&self, out: &mut W, boards: &mut Boards, items: &[T]) -> Result<(), Stop> {
-        let mut progress = Progress { rows: 0, first: None };
-        writeln!(out, "   #  who  word              hazard      epoch       quiescent")?;
+    fn rows<T: ItemOrder, W: Write>(
+        &self,
+        out: &mut W,
+        boards: &mut Boards,
+        items: &[T],
+    ) -> Result<(), Stop> {
+        let mut progress = Progress {
+            rows: 0,
+            first: None,
+        };
+        writeln!(
+            out,
+            "   #  who  word              hazard      epoch       quiescent"
+        )?;
         for line in self.schedule.lines.iter() {
             self.act(out, boards, items, &mut progress, line.act)?;
         }

@@ -1,4 +1,8 @@
 // `slotlock run`: a table of every word, its answer and what it did.
+use account::Moment;
+use account::Told;
+use account::ToldDisplay;
+use board::Board;
 use console::Answered;
 use console::AnsweredDisplay;
 use console::Asked;
@@ -15,10 +19,6 @@ use console::refused;
 use console::sessions_of;
 use console::source;
 use console::with_schedule;
-use account::Moment;
-use account::Told;
-use account::ToldDisplay;
-use board::Board;
 use items::ItemOrder;
 use machine::AnswerKind;
 use machine::Op;
@@ -48,17 +48,44 @@ struct Table<'a> {
     show: bool,
 }
 
-fn row<'x, W: Write>(heap: Global, out: &mut W, number: usize, moment: &'x Moment, labels: &'x [String]) -> Result<(), Stop> {
+fn row<'x, W: Write>(
+    heap: Global,
+    out: &mut W,
+    number: usize,
+    moment: &'x Moment,
+    labels: &'x [String],
+) -> Result<(), Stop> {
     let pops = matches!(moment.op, Some(Op::Pop));
     let who = Who(moment.word);
-    let asked = format!(heap, "{}", Asked { word: moment.word, labels })?;
-    let answer = format!(heap, "{}", Answered { answer: moment.answer, pops })?;
+    let asked = format!(
+        heap,
+        "{}",
+        Asked {
+            word: moment.word,
+            labels
+        }
+    )?;
+    let answer = format!(
+        heap,
+        "{}",
+        Answered {
+            answer: moment.answer,
+            pops
+        }
+    )?;
     let told = Told { moment, labels };
-    writeln!(out, "{number:>4}  {who}   {asked:<16}  {answer:<10}  {told}")?;
+    writeln!(
+        out,
+        "{number:>4}  {who}   {asked:<16}  {answer:<10}  {told}"
+    )?;
     Ok(())
 }
 
-fn serial_order<'x, W: Write>(out: &mut W, watch: &'x Watch, labels: &'x [String]) -> Result<(), Stop> {
+fn serial_order<'x, W: Write>(
+    out: &mut W,
+    watch: &'x Watch,
+    labels: &'x [String],
+) -> Result<(), Stop> {
     if watch.decided.is_empty() {
         writeln!(out, "serial order   nothing was decided")?;
     }
@@ -70,8 +97,18 @@ fn serial_order<'x, W: Write>(out: &mut W, watch: &'x Watch, labels: &'x [String
     Ok(())
 }
 
-fn show<'x, R: Reclaimer, W: Write>(out: &mut W, title: &str, board: &'x Board<R>, watch: &'x Watch, labels: &'x [String]) -> Result<(), Stop> {
-    let picture = Picture { board, watch, labels };
+fn show<'x, R: Reclaimer, W: Write>(
+    out: &mut W,
+    title: &str,
+    board: &'x Board<R>,
+    watch: &'x Watch,
+    labels: &'x [String],
+) -> Result<(), Stop> {
+    let picture = Picture {
+        board,
+        watch,
+        labels,
+    };
     writeln!(out, "{title}{picture}")?;
     Ok(())
 }
@@ -86,7 +123,13 @@ struct Scene<R> {
 }
 
 impl<R: Reclaimer> Scene<R> {
-    fn give<T: ItemOrder, W: Write>(&mut self, table: &Table<'_>, out: &mut W, items: &[T], word: u32) -> Result<AnswerKind, Stop> {
+    fn give<T: ItemOrder, W: Write>(
+        &mut self,
+        table: &Table<'_>,
+        out: &mut W,
+        items: &[T],
+        word: u32,
+    ) -> Result<AnswerKind, Stop> {
         let labels = table.schedule.labels.as_slice();
         let moment = self.watch.give(&mut self.board, items, word)?;
         self.count = self.count.saturating_add(1);
@@ -97,23 +140,48 @@ impl<R: Reclaimer> Scene<R> {
         Ok(moment.answer.kind)
     }
 
-    fn steps<T: ItemOrder, W: Write>(&mut self, table: &Table<'_>, out: &mut W, items: &[T], session: u8, count: u32) -> Result<(), Stop> {
+    fn steps<T: ItemOrder, W: Write>(
+        &mut self,
+        table: &Table<'_>,
+        out: &mut W,
+        items: &[T],
+        session: u8,
+        count: u32,
+    ) -> Result<(), Stop> {
         for _ in 0..count {
             self.give(table, out, items, encode(WordKind::Step, session, 0))?;
         }
         Ok(())
     }
 
-    fn finish<T: ItemOrder, W: Write>(&mut self, table: &Table<'_>, out: &mut W, items: &[T], session: u8) -> Result<(), Stop> {
+    fn finish<T: ItemOrder, W: Write>(
+        &mut self,
+        table: &Table<'_>,
+        out: &mut W,
+        items: &[T],
+        session: u8,
+    ) -> Result<(), Stop> {
         for _ in 0..MOST_STEPS {
-            let AnswerKind::UnderWay = self.give(table, out, items, encode(WordKind::Step, session, 0))? else {
+            let AnswerKind::UnderWay = self.give(
+                table,
+                out,
+                items,
+                encode(WordKind::Step, session, 0),
+            )?
+            else {
                 return Ok(());
             };
         }
         Ok(())
     }
 
-    fn act<T: ItemOrder, W: Write>(&mut self, table: &Table<'_>, out: &mut W, items: &[T], act: Act) -> Result<(), Stop> {
+    fn act<T: ItemOrder, W: Write>(
+        &mut self,
+        table: &Table<'_>,
+        out: &mut W,
+        items: &[T],
+        act: Act,
+    ) -> Result<(), Stop> {
         match act {
             Act::Word(word) => {
                 self.give(table, out, items, word)?;
@@ -135,16 +203,27 @@ impl<R: Reclaimer> Scene<R> {
 }
 
 impl Job for Table<'_> as TableJob {
-    fn go<R: Reclaimer + Drop, T: ItemOrder>(&mut self, made: Result<R, Unmade>, items: &[T]) -> Result<(), Stop> {
+    fn go<R: Reclaimer + Drop, T: ItemOrder>(
+        &mut self,
+        made: Result<R, Unmade>,
+        items: &[T],
+    ) -> Result<(), Stop> {
         let heap = self.rt.alloc();
         let board = match loads::open(heap, made, items.len()) {
             Ok(board) => board,
             Err(why) => return Err(refused(self.rt, why)),
         };
         let places = u16::try_from(items.len()).unwrap_or(u16::MAX);
-        let mut scene = Scene { board, watch: Watch::new(heap, sessions_of(self.schedule), places), count: 0 };
+        let mut scene = Scene {
+            board,
+            watch: Watch::new(heap, sessions_of(self.schedule), places),
+            count: 0,
+        };
         let mut out = BufWriter::new(self.rt.stdout());
-        writeln!(out, "   #  who  word              answer      what happened")?;
+        writeln!(
+            out,
+            "   #  who  word              answer      what happened"
+        )?;
         for line in self.schedule.lines.iter() {
             scene.act(self, &mut out, items, line.act)?;
         }

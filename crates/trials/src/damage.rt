@@ -25,7 +25,12 @@ fn cut(heap: Global, numbers: &mut Generator, text: &[u8]) -> Result<Vec<u8>, Al
 }
 
 // The text with something put in at a place that is drawn.
-fn put_in(heap: Global, numbers: &mut Generator, text: &[u8], more: &[u8]) -> Result<Vec<u8>, AllocError> {
+fn put_in(
+    heap: Global,
+    numbers: &mut Generator,
+    text: &[u8],
+    more: &[u8],
+) -> Result<Vec<u8>, AllocError> {
     let at = place(numbers.next(), text);
     let mut damaged = Vec::from_slice(heap, &text[0..at])?;
     damaged.extend_from_slice(more)?;
@@ -34,7 +39,12 @@ fn put_in(heap: Global, numbers: &mut Generator, text: &[u8], more: &[u8]) -> Re
 }
 
 // The text with some bytes changed, up to so many.
-fn flip(heap: Global, numbers: &mut Generator, text: &[u8], most: u64) -> Result<Vec<u8>, AllocError> {
+fn flip(
+    heap: Global,
+    numbers: &mut Generator,
+    text: &[u8],
+    most: u64,
+) -> Result<Vec<u8>, AllocError> {
     let mut damaged = Vec::from_slice(heap, text)?;
     for _ in 0..most {
         let at = place(numbers.next(), text);

@@ -37,7 +37,9 @@ impl Tally {
                 self.read = self.read.saturating_add(1);
                 Ok(())
             }
-            Err(Unread::Bad { line: _, expected }) => self.refuse(format!(heap, "expected {expected}")?),
+            Err(Unread::Bad { line: _, expected }) => self.refuse(
+                format!(heap, "expected {expected}")?,
+            ),
             Err(why) => self.refuse(format!(heap, "{why}")?),
         }
     }
@@ -54,7 +56,11 @@ fn sample(r: u64) -> &'static str {
 
 fn trials(heap: Global, seed: u64, count: u64) -> Result<Tally, Stop> {
     let mut numbers = Generator { state: seed };
-    let mut tally = Tally { read: 0, refused: 0, messages: BTreeMap::new(heap) };
+    let mut tally = Tally {
+        read: 0,
+        refused: 0,
+        messages: BTreeMap::new(heap),
+    };
     for _ in 0..count {
         let text = sample(numbers.next());
         let bytes = damaged(heap, &mut numbers, text.as_bytes())?;
@@ -66,7 +72,10 @@ fn trials(heap: Global, seed: u64, count: u64) -> Result<Tally, Stop> {
 fn print(rt: &LibcRuntime, seed: u64, count: u64, tally: &Tally) -> Result<(), Stop> {
     let read = tally.read;
     let refused = tally.refused;
-    println!(rt, "seed {seed} texts {count}: read {read} refused {refused}")?;
+    println!(
+        rt,
+        "seed {seed} texts {count}: read {read} refused {refused}"
+    )?;
     for (message, times) in tally.messages.iter() {
         println!(rt, "{times:>8}  {message}")?;
     }

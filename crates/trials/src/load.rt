@@ -48,7 +48,11 @@ pub fn command(rt: &LibcRuntime, args: Args) -> Result<(), Stop> {
     println!(rt, "{report}")?;
     match outcome {
         Outcome::Refused(_) => Err(Stop::Told),
-        Outcome::Done { figures: done, held: _, free: _ } => {
+        Outcome::Done {
+            figures: done,
+            held: _,
+            free: _,
+        } => {
             figures(rt, done)?;
             time(rt, "word", nanos, done.words)?;
             time(rt, "operation", nanos, done.operations)

@@ -22,14 +22,23 @@ pub fn next(rt: &LibcRuntime, args: &mut Args, what: &str) -> Result<String, Sto
 }
 
 // The next argument as a number from a least to a most.
-pub fn number(rt: &LibcRuntime, args: &mut Args, what: &str, least: u64, most: u64) -> Result<u64, Stop> {
+pub fn number(
+    rt: &LibcRuntime,
+    args: &mut Args,
+    what: &str,
+    least: u64,
+    most: u64,
+) -> Result<u64, Stop> {
     let text = next(rt, args, what)?;
     if let Ok(n) = text.as_str().parse::<u64>() {
         if least <= n && n <= most {
             return Ok(n);
         }
     }
-    let message = format!(rt.alloc(), "expected {what}, a number from {least} to {most}, not '{text}'")?;
+    let message = format!(
+        rt.alloc(),
+        "expected {what}, a number from {least} to {most}, not '{text}'"
+    )?;
     Err(tell(rt, message))
 }
 
@@ -43,7 +52,10 @@ fn scheme(rt: &LibcRuntime, args: &mut Args) -> Result<Scheme, Stop> {
     match Scheme::named(text.as_str()) {
         Some(scheme) => Ok(scheme),
         None => {
-            let message = format!(rt.alloc(), "expected hazard, epoch or quiescent, not '{text}'")?;
+            let message = format!(
+                rt.alloc(),
+                "expected hazard, epoch or quiescent, not '{text}'"
+            )?;
             Err(tell(rt, message))
         }
     }
@@ -94,7 +106,16 @@ pub fn load(rt: &LibcRuntime, args: &mut Args) -> Result<Load, Stop> {
     let mode = mode(rt, args)?;
     let keys = sixteen_bits(rt, args, "keys", 1)?;
     let turns = number(rt, args, "turns", 0, u64::MAX)?;
-    let mut load = Load { scheme, sessions: 8, cells: 256, sort: ItemSort::Numbers, keys, mode, seed: 88172645463325252, turns };
+    let mut load = Load {
+        scheme,
+        sessions: 8,
+        cells: 256,
+        sort: ItemSort::Numbers,
+        keys,
+        mode,
+        seed: 88172645463325252,
+        turns,
+    };
     for _ in 0..u64::MAX {
         let Some(name) = args.next() else {
             break;

@@ -20,12 +20,30 @@ pub struct Decided {
 // Whether a step decided its operation, and how: a delete is decided by its mark, all else where it completes.
 pub fn verdict(before: Stage, after: Stage, answer: Answer) -> Option<bool> {
     match before {
-        Stage::MarkCell { sought: _, prev: _, cur: _, next: _ } => match after {
-            Stage::RemoveCell { sought: _, prev: _, cur: _, next: _ } => Some(true),
+        Stage::MarkCell {
+            sought: _,
+            prev: _,
+            cur: _,
+            next: _,
+        } => match after {
+            Stage::RemoveCell {
+                sought: _,
+                prev: _,
+                cur: _,
+                next: _,
+            } => Some(true),
             _ => None,
         },
-        Stage::RemoveCell { sought: _, prev: _, cur: _, next: _ } => None,
-        Stage::Find { goal: Goal::Finish { sought: _ }, at: _ } => None,
+        Stage::RemoveCell {
+            sought: _,
+            prev: _,
+            cur: _,
+            next: _,
+        } => None,
+        Stage::Find {
+            goal: Goal::Finish { sought: _ },
+            at: _,
+        } => None,
         _ => match answer.kind {
             AnswerKind::Yes => Some(true),
             AnswerKind::No => Some(false),
@@ -46,7 +64,11 @@ fn asked<W: fmt::Write>(labels: &[String], op: Op, f: &mut fmt::Formatter<W>) ->
     write!(f, "{verb} {name}")
 }
 
-fn answered<W: fmt::Write>(labels: &[String], decided: Decided, f: &mut fmt::Formatter<W>) -> fmt::Result {
+fn answered<W: fmt::Write>(
+    labels: &[String],
+    decided: Decided,
+    f: &mut fmt::Formatter<W>,
+) -> fmt::Result {
     if !decided.yes {
         return f.write_str(" no");
     }

@@ -14,7 +14,12 @@ pub struct Picture<'a, R: Reclaimer> {
 }
 
 // A chain of cells from its first one on, with their items and marks.
-fn chain<R: Reclaimer, W: fmt::Write>(board: &Board<R>, labels: &[String], first: Option<u8>, f: &mut fmt::Formatter<W>) -> fmt::Result {
+fn chain<R: Reclaimer, W: fmt::Write>(
+    board: &Board<R>,
+    labels: &[String],
+    first: Option<u8>,
+    f: &mut fmt::Formatter<W>,
+) -> fmt::Result {
     let mut at = first;
     if at.is_none() {
         return f.write_str(" none");

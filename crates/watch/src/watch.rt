@@ -35,16 +35,38 @@ pub struct Watch {
     pub decided: Vec<Decided>,
 }
 
-const EMPTY: Seat = Seat { op: None, announced: [None, None, None], asleep: false };
+const EMPTY: Seat = Seat {
+    op: None,
+    announced: [None, None, None],
+    asleep: false,
+};
 
 // The slot and the cell that a step of a stage protects.
 pub fn announces(stage: Stage) -> Option<(u8, u8)> {
     match stage {
         Stage::PopProtectTop { top } => Some((0, top)),
-        Stage::Find { goal: _, at: Search::ProtectFirst { cur } } => Some((1, cur)),
-        Stage::Find { goal: _, at: Search::ProtectNext { prev: _, cur: _, marked: _, next, place: _ } } => Some((0, next)),
-        Stage::Find { goal: _, at: Search::ShiftPrev { cur, next: _ } } => Some((2, cur)),
-        Stage::Find { goal: _, at: Search::ShiftCur { prev: _, next } } => Some((1, next)),
+        Stage::Find {
+            goal: _,
+            at: Search::ProtectFirst { cur },
+        } => Some((1, cur)),
+        Stage::Find {
+            goal: _,
+            at: Search::ProtectNext {
+                prev: _,
+                cur: _,
+                marked: _,
+                next,
+                place: _,
+            },
+        } => Some((0, next)),
+        Stage::Find {
+            goal: _,
+            at: Search::ShiftPrev { cur, next: _ },
+        } => Some((2, cur)),
+        Stage::Find {
+            goal: _,
+            at: Search::ShiftCur { prev: _, next },
+        } => Some((1, next)),
         _ => None,
     }
 }
@@ -65,7 +87,12 @@ fn completes(answer: Answer) -> bool {
 
 impl Watch {
     pub fn new(heap: Global, sessions: u8, items: u16) -> Watch {
-        Watch { sessions, items, seats: [EMPTY; 8], decided: Vec::new(heap) }
+        Watch {
+            sessions,
+            items,
+            seats: [EMPTY; 8],
+            decided: Vec::new(heap),
+        }
     }
 
     pub fn sessions(&self) -> u8 {
@@ -73,7 +100,11 @@ impl Watch {
     }
 
     pub fn seat(&self, session: u8) -> Seat {
-        if session < 8 { self.seats[session as usize] } else { EMPTY }
+        if session < 8 {
+            self.seats[session as usize]
+        } else {
+            EMPTY
+        }
     }
 
     fn set_seat(&mut self, session: u8, seat: Seat) {
@@ -97,7 +128,13 @@ impl Watch {
         let (Some(yes), Some(op)) = (verdict(m.before, m.after, m.answer), m.op) else {
             return Ok(());
         };
-        self.decided.push(Decided { session, op, yes, place: m.answer.value })?;
+        self.decided
+            .push(Decided {
+                session,
+                op,
+                yes,
+                place: m.answer.value,
+            })?;
         Ok(())
     }
 
@@ -122,23 +159,51 @@ impl Watch {
 
     // A begin that was not refused.
     fn begin(&mut self, session: u8, op: Op) {
-        self.set_seat(session, Seat { op: Some(op), announced: [None; 3], asleep: false });
+        self.set_seat(
+            session,
+            Seat {
+                op: Some(op),
+                announced: [None; 3],
+                asleep: false,
+            },
+        );
     }
 
     fn note(&mut self, m: &mut Moment) -> Result<(), AllocError> {
         match (m.asked, m.answer.kind) {
             (_, AnswerKind::Refused) => Ok(()),
-            (Ok(Word::Of { session, kind: Kind::Begin(op) }), _) => {
+            (
+                Ok(
+                    Word::Of {
+                        session,
+                        kind: Kind::Begin(op),
+                    },
+                ),
+                _,
+            ) => {
                 self.begin(session, op);
                 Ok(())
             }
-            (Ok(Word::Of { session, kind: Kind::Step }), _) => self.step(session, m),
+            (
+                Ok(
+                    Word::Of {
+                        session,
+                        kind: Kind::Step,
+                    },
+                ),
+                _,
+            ) => self.step(session, m),
             _ => Ok(()),
         }
     }
 
     // Gives one word to a board.
-    pub fn give<R: Reclaimer, T: ItemOrder>(&mut self, board: &mut Board<R>, items: &[T], word: u32) -> Result<Moment, AllocError> {
+    pub fn give<R: Reclaimer, T: ItemOrder>(
+        &mut self,
+        board: &mut Board<R>,
+        items: &[T],
+        word: u32,
+    ) -> Result<Moment, AllocError> {
         let asked = Word::parse(word, self.sessions, self.items);
         let session = match asked {
             Ok(Word::Of { session, kind: _ }) => session,
@@ -153,7 +218,19 @@ impl Watch {
         };
         let after = board.stage_of(session);
         let tallies = (tallied, board.tallies());
-        let mut moment = Moment { word, asked, answer, before, after, op: None, tallies, head: board.head(), front: board.front(), compared, woke: false };
+        let mut moment = Moment {
+            word,
+            asked,
+            answer,
+            before,
+            after,
+            op: None,
+            tallies,
+            head: board.head(),
+            front: board.front(),
+            compared,
+            woke: false,
+        };
         self.note(&mut moment)?;
         Ok(moment)
     }

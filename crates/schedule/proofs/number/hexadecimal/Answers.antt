@@ -26,9 +26,10 @@ add-n c =
 
 pub loop-b-again : need.loop-b-again
 loop-b-again c =
-    let read = c .in-Some .ensures tt in
-    (omega (arith, value-more 16 (c .args .digits .now) (c .loop-b .b-index) (c .loop-b-test .taken), read .1, c .from .ensures, c .loop-b .inv .0),
-      digits-more 16 (c .args .digits .now) (c .loop-b .b-index) (c .loop-b-test .taken) (c .loop-b .inv .1) (read .0))
+    let read = c .in-Some .ensures tt in (
+      omega (arith, value-more 16 (c .args .digits .now) (c .loop-b .b-index) (c .loop-b-test .taken), read .1, c .from .ensures, c .loop-b .inv .0),
+      digits-more 16 (c .args .digits .now) (c .loop-b .b-index) (c .loop-b-test .taken) (c .loop-b .inv .1) (read .0),
+    )
 
 pub returns : need.returns
 returns c =

@@ -16,4 +16,5 @@ pub returns : need.returns
 returns c =
     record {
       value = ap (λ n. c .args .r / 8 % n) (c .from .ensures);
-      bound = below (c .args .r / 8) (c .from .result) (c .args .self .now .sessions) (c .from .ensures) (c .args .self .now .some) (c .args .self .now .few) }
+      bound = below (c .args .r / 8) (c .from .result) (c .args .self .now .sessions) (c .from .ensures) (c .args .self .now .some) (c .args .self .now .few);
+    }
