@@ -38,7 +38,7 @@ pub struct Held<N: Drop> {
 
 impl<N: Drop> Held<N> {
     // Nothing held yet, of so many cells.
-    pub fn new(heap: Global, cells: u16) -> Result<Held<N>, Unmade>
+    pub(crate) fn new(heap: Global, cells: u16) -> Result<Held<N>, Unmade>
         requires { ⌜ cells ≤ 256 ⌝ }
         ensures { λ r. ⌜ elim r [ Ok h ↦ (h .cells ≡ cells) × (vec-items (h .list) ≡ []) | Err e ↦ e ≡ NoMemory ] ⌝ }
     {
@@ -48,7 +48,7 @@ impl<N: Drop> Held<N> {
         }
     }
 
-    pub fn has(&self, cell: u8) -> bool
+    pub(crate) fn has(&self, cell: u8) -> bool
         ensures { λ r. ⌜ r ≡ stands-for cell-in (vec-items (now (self .entry) .list)) cell ⌝ }
     {
         for held in self.list.iter() {
@@ -59,14 +59,14 @@ impl<N: Drop> Held<N> {
         false
     }
 
-    pub fn count(&self) -> u16
+    pub(crate) fn count(&self) -> u16
         ensures { λ r. ⌜ r ≡ length (vec-items (now (self .entry) .list)) ⌝ }
     {
         self.list.len() as u16
     }
 
     // The token back, to be retired or with the reason why not.
-    pub fn check_retire(&self, debt: Unlinked) -> Result<Unlinked, Unpaid>
+    pub(crate) fn check_retire(&self, debt: Unlinked) -> Result<Unlinked, Unpaid>
         ensures { λ r. ⌜ r ≡ check-retire debt debt (now (self .entry) .cells) (stands-for cell-in (vec-items (now (self .entry) .list)) (debt .cell)) ⌝ }
     {
         let cell = debt.number();
@@ -86,7 +86,7 @@ impl<N: Drop> Held<N> {
     }
 
     // Holds the cell as the newest and spends its token.
-    pub fn hold(&mut self, debt: Unlinked, note: N)
+    pub(crate) fn hold(&mut self, debt: Unlinked, note: N)
         requires below { ⌜ debt .cell < now self .cells ⌝ }
         requires apart { ⌜ stands-for cell-in (vec-items (now self .list)) (debt .cell) ≡ false ⌝ }
         ensures after { λ _. ⌜ vec-items (now (self .exit) .list) ≡ vec-items (now (self .entry) .list) ++ record { cell = debt .cell; note = note } ∷ [] ⌝ }
@@ -99,7 +99,7 @@ impl<N: Drop> Held<N> {
     }
 
     // Gives back the cell at this place.
-    pub fn give(&mut self, at: usize) -> u8
+    pub(crate) fn give(&mut self, at: usize) -> u8
         requires { ⌜ at < length (vec-items (now self .list)) ⌝ }
         ensures answer { λ r. ⌜ r ≡ getD (map cell-in (vec-items (now (self .entry) .list))) at 0 ⌝ }
         ensures after { λ _. ⌜ vec-items (now (self .exit) .list) ≡ removed (vec-items (now (self .entry) .list)) at ⌝ }
