@@ -1,0 +1,5 @@
+pub mod Records
+pub mod Schemes
+pub mod Reports
+pub mod Cuts
+pub mod Plays
