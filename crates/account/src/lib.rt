@@ -1,4 +1,6 @@
 // Tells in plain words what the words of a schedule did to a board.
+#![tactic(auto)]
+
 mod changed;
 mod ends;
 pub mod moment;

@@ -15,7 +15,7 @@ impl<R: Reclaimer> Board<R> {
     // A board for so many items over a reclaimer that has nobody inside and holds nothing.
     // Where it is refused the reclaimer comes back as it was.
     pub fn open(heap: Global, reclaimer: R, items: u16) -> Result<Board<R>, Unopened<R>>
-        ensures { Opened model state reclaimer items result }
+        ensures { Opened R.model R.state reclaimer items result }
     {
         Board::open_over(heap, reclaimer, items)
     }
@@ -23,7 +23,7 @@ impl<R: Reclaimer> Board<R> {
     // Does one word, by the list of items whose places the words and the cells name.
     // A board that came from an opening by words on one list has come so again, and its whole run keeps the promise.
     pub fn word<T: ItemOrder>(&mut self, items: &[T], word: u32) -> Answer
-        ensures { WordDone model order value items.now (view state self.old) word (view state self.new) result }
+        ensures { WordDone R.model T.order T.value items.now (view R.state self.old) word (view R.state self.new) result }
     {
         self.do_word(items, word)
     }
@@ -36,7 +36,7 @@ impl<R: Reclaimer> Board<R> {
         words: &[u32],
         answers: &mut [Answer],
     ) -> Result<usize, Reason>
-        ensures { RunDone model order value items.now (view state self.old) words.now answers.old (view state self.new) answers.new result }
+        ensures { RunDone R.model T.order T.value items.now (view R.state self.old) words.now answers.old (view R.state self.new) answers.new result }
     {
         self.do_run(items, words, answers)
     }
@@ -51,7 +51,7 @@ pub fn play<R: Reclaimer, T: ItemOrder>(
     words: &[u32],
     answers: &mut [Answer],
 ) -> Result<Board<R>, Unopened<R>>
-    ensures { PlayedAs model state order value reclaimer items.now words.now answers.old answers.new result }
+    ensures { PlayedAs R.model R.state T.order T.value reclaimer items.now words.now answers.old answers.new result }
 {
     open_and_run(heap, reclaimer, items, words, answers)
 }

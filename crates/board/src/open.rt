@@ -14,7 +14,7 @@ pub struct Unopened<R> {
 }
 
 fn some_inside<R: Reclaimer>(reclaimer: &R) -> bool
-    ensures { result ≡ inside_below model (state reclaimer.now) 8 }
+    ensures { result ≡ inside_below R.model (R.state reclaimer.now) 8 }
 {
     for s in 0..8 {
         if reclaimer.is_inside(s) {
@@ -26,7 +26,7 @@ fn some_inside<R: Reclaimer>(reclaimer: &R) -> bool
 
 impl<R: Reclaimer> Board<R> {
     pub(crate) fn open_over(heap: Global, reclaimer: R, items: u16) -> Result<Board<R>, Unopened<R>>
-        ensures { Opened model state reclaimer items result }
+        ensures { Opened R.model R.state reclaimer items result }
     {
         let (sessions, cells) = reclaimer.sizes();
         if sessions == 0 || sessions > 8 || cells == 0 || cells > 256 || items > 1024 {

@@ -14,7 +14,7 @@ pub(crate) fn open_and_run<R: Reclaimer, T: ItemOrder>(
     words: &[u32],
     answers: &mut [Answer],
 ) -> Result<Board<R>, Unopened<R>>
-    ensures { PlayedAs model state order value reclaimer items.now words.now answers.old answers.new result }
+    ensures { PlayedAs R.model R.state T.order T.value reclaimer items.now words.now answers.old answers.new result }
 {
     if answers.len() < words.len() {
         return Err(Unopened {

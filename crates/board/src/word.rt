@@ -15,8 +15,8 @@ impl<R: Reclaimer> Board<R> {
     // A word for one session: its stage and the word's kind decide, and the stage moves in place.
     fn move_session<T: ItemOrder>(&mut self, session: u8, items: &[T], kind: Kind) -> Answer
         requires { session < 8 }
-        ensures after { view state self.new ≡ (landed model (view state self.old) session (moving model (compared order value items.now) (view state self.old).memory session ((view state self.old).stage session) kind)).after }
-        ensures answer { result ≡ (moving model (compared order value items.now) (view state self.old).memory session ((view state self.old).stage session) kind).answer }
+        ensures after { view R.state self.new ≡ (landed R.model (view R.state self.old) session (moving R.model (compared T.order T.value items.now) (view R.state self.old).memory session ((view R.state self.old).stage session) kind)).after }
+        ensures answer { result ≡ (moving R.model (compared T.order T.value items.now) (view R.state self.old).memory session ((view R.state self.old).stage session) kind).answer }
     {
         act(
             &mut self.memory,
@@ -28,15 +28,15 @@ impl<R: Reclaimer> Board<R> {
     }
 
     fn tidy(&mut self) -> Answer
-        ensures after { view state self.new ≡ (tidily model (view state self.old) (tidyings model (view state self.old).memory)).after }
-        ensures answer { result ≡ tidied (tidyings model (view state self.old).memory).given }
+        ensures after { view R.state self.new ≡ (tidily R.model (view R.state self.old) (tidyings R.model (view R.state self.old).memory)).after }
+        ensures answer { result ≡ tidied (tidyings R.model (view R.state self.old).memory).given }
     {
         Answer::tidied(self.memory.tidy())
     }
 
     // The checks of a word in their order, then what it asks for.
     pub(crate) fn do_word<T: ItemOrder>(&mut self, items: &[T], word: u32) -> Answer
-        ensures { WordDone model order value items.now (view state self.old) word (view state self.new) result }
+        ensures { WordDone R.model T.order T.value items.now (view R.state self.old) word (view R.state self.new) result }
     {
         if items.len() != self.items as usize {
             return Answer::refused(Reason::OtherItems);

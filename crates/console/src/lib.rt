@@ -1,4 +1,6 @@
 // What the commands of the program share: their arguments, the schedule they are given, how they end, how words are shown.
+#![tactic(auto)]
+
 pub mod arguments;
 pub mod asked;
 pub mod job;

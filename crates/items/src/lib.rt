@@ -10,6 +10,8 @@
 //     let low = ByteString::new(b"MSCU7")?;
 //     let high = ByteString::new(b"MSCU9")?;
 //     check_eq(low.compare(&high), Ordering::Less)
+#![tactic(auto)]
+
 mod byte_string;
 mod number;
 pub mod order;

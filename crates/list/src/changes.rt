@@ -17,9 +17,9 @@ pub fn link_fresh<R: Reclaimer>(
     prev: Prev,
     cur: Option<u8>,
 ) -> Answer
-    ensures after { memory_of state memory.new ≡ (link_fresh model (written model (memory_of state memory.old) fresh cur) session sought fresh prev cur (points (written model (memory_of state memory.old) fresh cur) prev cur)).memory }
-    ensures stage { stage.new ≡ (link_fresh model (written model (memory_of state memory.old) fresh cur) session sought fresh prev cur (points (written model (memory_of state memory.old) fresh cur) prev cur)).stage }
-    ensures answer { result ≡ (link_fresh model (written model (memory_of state memory.old) fresh cur) session sought fresh prev cur (points (written model (memory_of state memory.old) fresh cur) prev cur)).answer }
+    ensures after { memory_of R.state memory.new ≡ (link_fresh R.model (written R.model (memory_of R.state memory.old) fresh cur) session sought fresh prev cur (points (written R.model (memory_of R.state memory.old) fresh cur) prev cur)).memory }
+    ensures stage { stage.new ≡ (link_fresh R.model (written R.model (memory_of R.state memory.old) fresh cur) session sought fresh prev cur (points (written R.model (memory_of R.state memory.old) fresh cur) prev cur)).stage }
+    ensures answer { result ≡ (link_fresh R.model (written R.model (memory_of R.state memory.old) fresh cur) session sought fresh prev cur (points (written R.model (memory_of R.state memory.old) fresh cur) prev cur)).answer }
 {
     memory.write_link(fresh, cur);
     if memory.leads_to(prev, cur) {
@@ -47,9 +47,9 @@ pub fn mark_cell<R: Reclaimer>(
     cur: u8,
     next: Option<u8>,
 ) -> Answer
-    ensures after { memory_of state memory.new ≡ (mark_cell model (memory_of state memory.old) session sought prev cur next (points (memory_of state memory.old) (At cur) next)).memory }
-    ensures stage { stage.new ≡ (mark_cell model (memory_of state memory.old) session sought prev cur next (points (memory_of state memory.old) (At cur) next)).stage }
-    ensures answer { result ≡ (mark_cell model (memory_of state memory.old) session sought prev cur next (points (memory_of state memory.old) (At cur) next)).answer }
+    ensures after { memory_of R.state memory.new ≡ (mark_cell R.model (memory_of R.state memory.old) session sought prev cur next (points (memory_of R.state memory.old) (At cur) next)).memory }
+    ensures stage { stage.new ≡ (mark_cell R.model (memory_of R.state memory.old) session sought prev cur next (points (memory_of R.state memory.old) (At cur) next)).stage }
+    ensures answer { result ≡ (mark_cell R.model (memory_of R.state memory.old) session sought prev cur next (points (memory_of R.state memory.old) (At cur) next)).answer }
 {
     if memory.leads_to(Prev::At(cur), next) {
         memory.mark(cur);
@@ -84,9 +84,9 @@ pub fn remove_cell<R: Reclaimer>(
     cur: u8,
     next: Option<u8>,
 ) -> Answer
-    ensures after { memory_of state memory.new ≡ (remove_cell model (memory_of state memory.old) session sought prev cur next (points (memory_of state memory.old) prev (Some cur))).memory }
-    ensures stage { stage.new ≡ (remove_cell model (memory_of state memory.old) session sought prev cur next (points (memory_of state memory.old) prev (Some cur))).stage }
-    ensures answer { result ≡ (remove_cell model (memory_of state memory.old) session sought prev cur next (points (memory_of state memory.old) prev (Some cur))).answer }
+    ensures after { memory_of R.state memory.new ≡ (remove_cell R.model (memory_of R.state memory.old) session sought prev cur next (points (memory_of R.state memory.old) prev (Some cur))).memory }
+    ensures stage { stage.new ≡ (remove_cell R.model (memory_of R.state memory.old) session sought prev cur next (points (memory_of R.state memory.old) prev (Some cur))).stage }
+    ensures answer { result ≡ (remove_cell R.model (memory_of R.state memory.old) session sought prev cur next (points (memory_of R.state memory.old) prev (Some cur))).answer }
 {
     if memory.leads_to(prev, Some(cur)) {
         memory.relink(prev, next);

@@ -15,9 +15,9 @@ pub(crate) fn search_absent<R: Reclaimer>(
     prev: Prev,
     cur: Option<u8>,
 ) -> Answer
-    ensures after { (tr : Trace) → memory_of state memory.new ≡ (absent model (memory_of state memory.old) session goal prev cur tr).memory }
-    ensures stage { (tr : Trace) → stage.new ≡ (absent model (memory_of state memory.old) session goal prev cur tr).stage }
-    ensures answer { (tr : Trace) → result ≡ (absent model (memory_of state memory.old) session goal prev cur tr).answer }
+    ensures after { (tr : Trace) → memory_of R.state memory.new ≡ (absent R.model (memory_of R.state memory.old) session goal prev cur tr).memory }
+    ensures stage { (tr : Trace) → stage.new ≡ (absent R.model (memory_of R.state memory.old) session goal prev cur tr).stage }
+    ensures answer { (tr : Trace) → result ≡ (absent R.model (memory_of R.state memory.old) session goal prev cur tr).answer }
 {
     match goal {
         Goal::Add { sought, fresh } => go_on(
@@ -45,9 +45,9 @@ pub(crate) fn search_present<R: Reclaimer>(
     cur: u8,
     next: Option<u8>,
 ) -> Answer
-    ensures after { (tr : Trace) → memory_of state memory.new ≡ (present model (memory_of state memory.old) session goal prev cur next tr).memory }
-    ensures stage { (tr : Trace) → stage.new ≡ (present model (memory_of state memory.old) session goal prev cur next tr).stage }
-    ensures answer { (tr : Trace) → result ≡ (present model (memory_of state memory.old) session goal prev cur next tr).answer }
+    ensures after { (tr : Trace) → memory_of R.state memory.new ≡ (present R.model (memory_of R.state memory.old) session goal prev cur next tr).memory }
+    ensures stage { (tr : Trace) → stage.new ≡ (present R.model (memory_of R.state memory.old) session goal prev cur next tr).stage }
+    ensures answer { (tr : Trace) → result ≡ (present R.model (memory_of R.state memory.old) session goal prev cur next tr).answer }
 {
     match goal {
         Goal::Add { sought: _, fresh } => {

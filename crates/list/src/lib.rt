@@ -1,4 +1,6 @@
 // The steps of insert, delete and contains: a search along an ordered list, and the changes at the place where it ends.
+#![tactic(auto)]
+
 mod changes;
 mod ends;
 mod places;

@@ -8,7 +8,7 @@ use std::cmp::Ordering;
 
 // How the items at two places compare; a place past the items comes first.
 pub(crate) fn compare_places<T: ItemOrder>(items: &[T], a: u16, b: u16) -> Ordering
-    ensures { result ≡ compared order value items.now a b }
+    ensures { result ≡ compared T.order T.value items.now a b }
 {
     match (items.get(a as usize), items.get(b as usize)) {
         (Some(x), Some(y)) => x.compare(y),

@@ -30,9 +30,9 @@ fn read_front<R: Reclaimer>(
     stage: &mut Stage,
     goal: Goal,
 ) -> Answer
-    ensures after { memory_of state memory.new ≡ (read_front model (memory_of state memory.old) session goal (memory_of state memory.old).front).memory }
-    ensures stage { stage.new ≡ (read_front model (memory_of state memory.old) session goal (memory_of state memory.old).front).stage }
-    ensures answer { result ≡ (read_front model (memory_of state memory.old) session goal (memory_of state memory.old).front).answer }
+    ensures after { memory_of R.state memory.new ≡ (read_front R.model (memory_of R.state memory.old) session goal (memory_of R.state memory.old).front).memory }
+    ensures stage { stage.new ≡ (read_front R.model (memory_of R.state memory.old) session goal (memory_of R.state memory.old).front).stage }
+    ensures answer { result ≡ (read_front R.model (memory_of R.state memory.old) session goal (memory_of R.state memory.old).front).answer }
 {
     let Some(cur) = memory.front() else {
         return search_absent(memory, session, stage, goal, Prev::Front, None);
@@ -47,9 +47,9 @@ fn protect_first<R: Reclaimer>(
     goal: Goal,
     cur: u8,
 ) -> Answer
-    ensures after { memory_of state memory.new ≡ (on model (protected model (memory_of state memory.old) session 1 cur) (Find goal (CheckFront cur)) []).memory }
-    ensures stage { stage.new ≡ (on model (protected model (memory_of state memory.old) session 1 cur) (Find goal (CheckFront cur)) []).stage }
-    ensures answer { result ≡ (on model (protected model (memory_of state memory.old) session 1 cur) (Find goal (CheckFront cur)) []).answer }
+    ensures after { memory_of R.state memory.new ≡ (on R.model (protected R.model (memory_of R.state memory.old) session 1 cur) (Find goal (CheckFront cur)) []).memory }
+    ensures stage { stage.new ≡ (on R.model (protected R.model (memory_of R.state memory.old) session 1 cur) (Find goal (CheckFront cur)) []).stage }
+    ensures answer { result ≡ (on R.model (protected R.model (memory_of R.state memory.old) session 1 cur) (Find goal (CheckFront cur)) []).answer }
 {
     memory.protect(session, 1, cur);
     seek(stage, goal, Search::CheckFront { cur })
@@ -63,9 +63,9 @@ fn check_front<R: Reclaimer>(
     goal: Goal,
     cur: u8,
 ) -> Answer
-    ensures after { memory_of state memory.new ≡ (check_front model (memory_of state memory.old) session goal cur (points (memory_of state memory.old) Front (Some cur))).memory }
-    ensures stage { stage.new ≡ (check_front model (memory_of state memory.old) session goal cur (points (memory_of state memory.old) Front (Some cur))).stage }
-    ensures answer { result ≡ (check_front model (memory_of state memory.old) session goal cur (points (memory_of state memory.old) Front (Some cur))).answer }
+    ensures after { memory_of R.state memory.new ≡ (check_front R.model (memory_of R.state memory.old) session goal cur (points (memory_of R.state memory.old) Front (Some cur))).memory }
+    ensures stage { stage.new ≡ (check_front R.model (memory_of R.state memory.old) session goal cur (points (memory_of R.state memory.old) Front (Some cur))).stage }
+    ensures answer { result ≡ (check_front R.model (memory_of R.state memory.old) session goal cur (points (memory_of R.state memory.old) Front (Some cur))).answer }
 {
     if memory.leads_to(Prev::Front, Some(cur)) {
         seek(
@@ -90,9 +90,9 @@ fn read_cell<R: Reclaimer>(
     prev: Prev,
     cur: u8,
 ) -> Answer
-    ensures after { memory_of state memory.new ≡ (read_cell model (memory_of state memory.old) session goal prev cur ((memory_of state memory.old).link cur)).memory }
-    ensures stage { stage.new ≡ (read_cell model (memory_of state memory.old) session goal prev cur ((memory_of state memory.old).link cur)).stage }
-    ensures answer { result ≡ (read_cell model (memory_of state memory.old) session goal prev cur ((memory_of state memory.old).link cur)).answer }
+    ensures after { memory_of R.state memory.new ≡ (read_cell R.model (memory_of R.state memory.old) session goal prev cur ((memory_of R.state memory.old).link cur)).memory }
+    ensures stage { stage.new ≡ (read_cell R.model (memory_of R.state memory.old) session goal prev cur ((memory_of R.state memory.old).link cur)).stage }
+    ensures answer { result ≡ (read_cell R.model (memory_of R.state memory.old) session goal prev cur ((memory_of R.state memory.old).link cur)).answer }
 {
     let Cell { place, link } = memory.cell(cur);
     let marked = link.marked;
@@ -133,9 +133,9 @@ fn protect_next<R: Reclaimer>(
     next: u8,
     place: u16,
 ) -> Answer
-    ensures after { memory_of state memory.new ≡ (on model (protected model (memory_of state memory.old) session 0 next) (Find goal (CheckPrev prev cur marked (Some next) place)) []).memory }
-    ensures stage { stage.new ≡ (on model (protected model (memory_of state memory.old) session 0 next) (Find goal (CheckPrev prev cur marked (Some next) place)) []).stage }
-    ensures answer { result ≡ (on model (protected model (memory_of state memory.old) session 0 next) (Find goal (CheckPrev prev cur marked (Some next) place)) []).answer }
+    ensures after { memory_of R.state memory.new ≡ (on R.model (protected R.model (memory_of R.state memory.old) session 0 next) (Find goal (CheckPrev prev cur marked (Some next) place)) []).memory }
+    ensures stage { stage.new ≡ (on R.model (protected R.model (memory_of R.state memory.old) session 0 next) (Find goal (CheckPrev prev cur marked (Some next) place)) []).stage }
+    ensures answer { result ≡ (on R.model (protected R.model (memory_of R.state memory.old) session 0 next) (Find goal (CheckPrev prev cur marked (Some next) place)) []).answer }
 {
     memory.protect(session, 0, next);
     let next = Some(next);
@@ -165,9 +165,9 @@ fn check_prev<R: Reclaimer, T: ItemOrder>(
     next: Option<u8>,
     place: u16,
 ) -> Answer
-    ensures after { memory_of state memory.new ≡ (check_prev model (memory_of state memory.old) session goal prev cur marked next place (points (memory_of state memory.old) prev (Some cur)) (compared order value items.now place (sought goal))).memory }
-    ensures stage { stage.new ≡ (check_prev model (memory_of state memory.old) session goal prev cur marked next place (points (memory_of state memory.old) prev (Some cur)) (compared order value items.now place (sought goal))).stage }
-    ensures answer { result ≡ (check_prev model (memory_of state memory.old) session goal prev cur marked next place (points (memory_of state memory.old) prev (Some cur)) (compared order value items.now place (sought goal))).answer }
+    ensures after { memory_of R.state memory.new ≡ (check_prev R.model (memory_of R.state memory.old) session goal prev cur marked next place (points (memory_of R.state memory.old) prev (Some cur)) (compared T.order T.value items.now place (sought goal))).memory }
+    ensures stage { stage.new ≡ (check_prev R.model (memory_of R.state memory.old) session goal prev cur marked next place (points (memory_of R.state memory.old) prev (Some cur)) (compared T.order T.value items.now place (sought goal))).stage }
+    ensures answer { result ≡ (check_prev R.model (memory_of R.state memory.old) session goal prev cur marked next place (points (memory_of R.state memory.old) prev (Some cur)) (compared T.order T.value items.now place (sought goal))).answer }
 {
     if !memory.leads_to(prev, Some(cur)) {
         return seek(stage, goal, Search::ReadFront);
@@ -202,9 +202,9 @@ fn confirm_cell<R: Reclaimer, T: ItemOrder>(
     next: Option<u8>,
     place: u16,
 ) -> Answer
-    ensures after { memory_of state memory.new ≡ (confirm_cell model (memory_of state memory.old) session goal prev cur next (points (memory_of state memory.old) (At cur) next) (compared order value items.now place (sought goal))).memory }
-    ensures stage { stage.new ≡ (confirm_cell model (memory_of state memory.old) session goal prev cur next (points (memory_of state memory.old) (At cur) next) (compared order value items.now place (sought goal))).stage }
-    ensures answer { result ≡ (confirm_cell model (memory_of state memory.old) session goal prev cur next (points (memory_of state memory.old) (At cur) next) (compared order value items.now place (sought goal))).answer }
+    ensures after { memory_of R.state memory.new ≡ (confirm_cell R.model (memory_of R.state memory.old) session goal prev cur next (points (memory_of R.state memory.old) (At cur) next) (compared T.order T.value items.now place (sought goal))).memory }
+    ensures stage { stage.new ≡ (confirm_cell R.model (memory_of R.state memory.old) session goal prev cur next (points (memory_of R.state memory.old) (At cur) next) (compared T.order T.value items.now place (sought goal))).stage }
+    ensures answer { result ≡ (confirm_cell R.model (memory_of R.state memory.old) session goal prev cur next (points (memory_of R.state memory.old) (At cur) next) (compared T.order T.value items.now place (sought goal))).answer }
 {
     if !memory.leads_to(Prev::At(cur), next) {
         return seek(stage, goal, Search::ReadFront);
@@ -227,9 +227,9 @@ fn shift_prev<R: Reclaimer>(
     cur: u8,
     next: u8,
 ) -> Answer
-    ensures after { memory_of state memory.new ≡ (on model (protected model (memory_of state memory.old) session 2 cur) (Find goal (ShiftCur (At cur) next)) []).memory }
-    ensures stage { stage.new ≡ (on model (protected model (memory_of state memory.old) session 2 cur) (Find goal (ShiftCur (At cur) next)) []).stage }
-    ensures answer { result ≡ (on model (protected model (memory_of state memory.old) session 2 cur) (Find goal (ShiftCur (At cur) next)) []).answer }
+    ensures after { memory_of R.state memory.new ≡ (on R.model (protected R.model (memory_of R.state memory.old) session 2 cur) (Find goal (ShiftCur (At cur) next)) []).memory }
+    ensures stage { stage.new ≡ (on R.model (protected R.model (memory_of R.state memory.old) session 2 cur) (Find goal (ShiftCur (At cur) next)) []).stage }
+    ensures answer { result ≡ (on R.model (protected R.model (memory_of R.state memory.old) session 2 cur) (Find goal (ShiftCur (At cur) next)) []).answer }
 {
     memory.protect(session, 2, cur);
     seek(
@@ -251,9 +251,9 @@ fn shift_cur<R: Reclaimer>(
     prev: Prev,
     next: u8,
 ) -> Answer
-    ensures after { memory_of state memory.new ≡ (on model (protected model (memory_of state memory.old) session 1 next) (Find goal (ReadCell prev next)) []).memory }
-    ensures stage { stage.new ≡ (on model (protected model (memory_of state memory.old) session 1 next) (Find goal (ReadCell prev next)) []).stage }
-    ensures answer { result ≡ (on model (protected model (memory_of state memory.old) session 1 next) (Find goal (ReadCell prev next)) []).answer }
+    ensures after { memory_of R.state memory.new ≡ (on R.model (protected R.model (memory_of R.state memory.old) session 1 next) (Find goal (ReadCell prev next)) []).memory }
+    ensures stage { stage.new ≡ (on R.model (protected R.model (memory_of R.state memory.old) session 1 next) (Find goal (ReadCell prev next)) []).stage }
+    ensures answer { result ≡ (on R.model (protected R.model (memory_of R.state memory.old) session 1 next) (Find goal (ReadCell prev next)) []).answer }
 {
     memory.protect(session, 1, next);
     seek(stage, goal, Search::ReadCell { prev, cur: next })
@@ -269,9 +269,9 @@ fn unlink<R: Reclaimer>(
     cur: u8,
     next: Option<u8>,
 ) -> Answer
-    ensures after { memory_of state memory.new ≡ (unlink_marked model (memory_of state memory.old) session goal prev cur next (points (memory_of state memory.old) prev (Some cur))).memory }
-    ensures stage { stage.new ≡ (unlink_marked model (memory_of state memory.old) session goal prev cur next (points (memory_of state memory.old) prev (Some cur))).stage }
-    ensures answer { result ≡ (unlink_marked model (memory_of state memory.old) session goal prev cur next (points (memory_of state memory.old) prev (Some cur))).answer }
+    ensures after { memory_of R.state memory.new ≡ (unlink_marked R.model (memory_of R.state memory.old) session goal prev cur next (points (memory_of R.state memory.old) prev (Some cur))).memory }
+    ensures stage { stage.new ≡ (unlink_marked R.model (memory_of R.state memory.old) session goal prev cur next (points (memory_of R.state memory.old) prev (Some cur))).stage }
+    ensures answer { result ≡ (unlink_marked R.model (memory_of R.state memory.old) session goal prev cur next (points (memory_of R.state memory.old) prev (Some cur))).answer }
 {
     if !memory.leads_to(prev, Some(cur)) {
         return seek(stage, goal, Search::ReadFront);
@@ -293,9 +293,9 @@ pub fn search_step<R: Reclaimer, T: ItemOrder>(
     goal: Goal,
     at: Search,
 ) -> Answer
-    ensures after { memory_of state memory.new ≡ (stepping model (compared order value items.now) (memory_of state memory.old) session (Find goal at)).memory }
-    ensures stage { stage.new ≡ (stepping model (compared order value items.now) (memory_of state memory.old) session (Find goal at)).stage }
-    ensures answer { result ≡ (stepping model (compared order value items.now) (memory_of state memory.old) session (Find goal at)).answer }
+    ensures after { memory_of R.state memory.new ≡ (stepping R.model (compared T.order T.value items.now) (memory_of R.state memory.old) session (Find goal at)).memory }
+    ensures stage { stage.new ≡ (stepping R.model (compared T.order T.value items.now) (memory_of R.state memory.old) session (Find goal at)).stage }
+    ensures answer { result ≡ (stepping R.model (compared T.order T.value items.now) (memory_of R.state memory.old) session (Find goal at)).answer }
 {
     match at {
         Search::ReadFront => read_front(memory, session, stage, goal),

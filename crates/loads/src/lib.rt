@@ -1,4 +1,6 @@
 // Seeded loads: words made from a seed, given to one board.
+#![tactic(auto)]
+
 mod begin;
 mod driver;
 pub mod figures;

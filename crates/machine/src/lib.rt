@@ -1,4 +1,6 @@
 // The types that the board's code and its definitions share, and the theorem over whole runs.
+#![tactic(auto)]
+
 pub mod answer;
 pub mod cell;
 pub mod stage;

@@ -15,73 +15,73 @@ pub fn same_cell(a: Option<u8>, b: Option<u8>) -> bool
 
 impl<R: Reclaimer> Memory<R> {
     pub fn head(&self) -> Option<u8>
-        ensures { result ≡ (memory_of state self.now).head }
+        ensures { result ≡ (memory_of R.state self.now).head }
     {
         self.head
     }
 
     pub fn set_head(&mut self, to: Option<u8>)
-        ensures { memory_of state self.new ≡ headed model (memory_of state self.old) to }
+        ensures { memory_of R.state self.new ≡ headed R.model (memory_of R.state self.old) to }
     {
         self.head = to;
     }
 
     pub fn front(&self) -> Option<u8>
-        ensures { result ≡ (memory_of state self.now).front }
+        ensures { result ≡ (memory_of R.state self.now).front }
     {
         self.front
     }
 
     pub fn cell(&self, c: u8) -> Cell
-        ensures to { result.link.to ≡ (memory_of state self.now).link c }
-        ensures marked { result.link.marked ≡ (memory_of state self.now).mark c }
-        ensures place { result.place ≡ (memory_of state self.now).item c }
+        ensures to { result.link.to ≡ (memory_of R.state self.now).link c }
+        ensures marked { result.link.marked ≡ (memory_of R.state self.now).mark c }
+        ensures place { result.place ≡ (memory_of R.state self.now).item c }
     {
         self.cells[c as usize]
     }
 
     fn set_link(&mut self, c: u8, link: Link)
-        ensures { memory_of state self.new ≡ with_link (memory_of state self.old) c link }
+        ensures { memory_of R.state self.new ≡ with_link (memory_of R.state self.old) c link }
     {
         self.cells[c as usize].link = link;
     }
 
     // The cell's link becomes the unmarked one to a cell or to none.
     pub fn write_link(&mut self, c: u8, to: Option<u8>)
-        ensures { memory_of state self.new ≡ written model (memory_of state self.old) c to }
+        ensures { memory_of R.state self.new ≡ written R.model (memory_of R.state self.old) c to }
     {
         self.set_link(c, Link { marked: false, to });
     }
 
     // Where the cell's link goes; its mark stays.
     fn set_next(&mut self, c: u8, to: Option<u8>)
-        ensures { memory_of state self.new ≡ relinked model (memory_of state self.old) (At c) to }
+        ensures { memory_of R.state self.new ≡ relinked R.model (memory_of R.state self.old) (At c) to }
     {
         self.cells[c as usize].link.to = to;
     }
 
     // The cell's mark; where its link goes stays.
     fn set_mark(&mut self, c: u8, marked: bool)
-        ensures { memory_of state self.new ≡ with_mark (memory_of state self.old) c marked }
+        ensures { memory_of R.state self.new ≡ with_mark (memory_of R.state self.old) c marked }
     {
         self.cells[c as usize].link.marked = marked;
     }
 
     pub fn mark(&mut self, c: u8)
-        ensures { memory_of state self.new ≡ marked model (memory_of state self.old) c }
+        ensures { memory_of R.state self.new ≡ marked R.model (memory_of R.state self.old) c }
     {
         self.set_mark(c, true);
     }
 
     fn set_cell(&mut self, c: u8, cell: Cell)
-        ensures { memory_of state self.new ≡ with_cell (memory_of state self.old) c cell }
+        ensures { memory_of R.state self.new ≡ with_cell (memory_of R.state self.old) c cell }
     {
         self.cells[c as usize] = cell;
     }
 
     // A fresh cell gets the item's place and an empty unmarked link.
     pub fn fill(&mut self, c: u8, place: u16)
-        ensures { memory_of state self.new ≡ taken model (memory_of state self.old) c (memory_of state self.old).free place }
+        ensures { memory_of R.state self.new ≡ taken R.model (memory_of R.state self.old) c (memory_of R.state self.old).free place }
     {
         let link = Link {
             marked: false,
@@ -92,7 +92,7 @@ impl<R: Reclaimer> Memory<R> {
 
     // Whether the link of prev is unmarked and to this cell or none.
     pub fn leads_to(&self, prev: Prev, cur: Option<u8>) -> bool
-        ensures { result ≡ points (memory_of state self.now) prev cur }
+        ensures { result ≡ points (memory_of R.state self.now) prev cur }
     {
         match prev {
             Prev::Front => same_cell(self.front, cur),
@@ -104,7 +104,7 @@ impl<R: Reclaimer> Memory<R> {
     }
 
     pub fn relink(&mut self, prev: Prev, to: Option<u8>)
-        ensures { memory_of state self.new ≡ relinked model (memory_of state self.old) prev to }
+        ensures { memory_of R.state self.new ≡ relinked R.model (memory_of R.state self.old) prev to }
     {
         match prev {
             Prev::Front => self.front = to,
@@ -114,7 +114,7 @@ impl<R: Reclaimer> Memory<R> {
 
     // The free cells, the top last.
     pub fn free_cells(&self) -> &[u8]
-        ensures { reverse result.now ≡ (memory_of state self.now).free }
+        ensures { reverse result.now ≡ (memory_of R.state self.now).free }
     {
         self.free.cells()
     }

@@ -9,8 +9,8 @@ use reclaim::Reclaimer;
 impl<R: Reclaimer> Memory<R> {
     // A fresh cell: the top of the free stack, else what the reclaimer gives back.
     pub fn fresh(&mut self) -> Option<u8>
-        ensures after { memory_of state self.new ≡ (takes model (memory_of state self.old)).0 }
-        ensures value { result ≡ (takes model (memory_of state self.old)).1 }
+        ensures after { memory_of R.state self.new ≡ (takes R.model (memory_of R.state self.old)).0 }
+        ensures value { result ≡ (takes R.model (memory_of R.state self.old)).1 }
     {
         if let Some(c) = self.free.take() {
             return Some(c);
@@ -20,7 +20,7 @@ impl<R: Reclaimer> Memory<R> {
 
     // A fresh cell that was not linked goes back on the free stack.
     pub fn put_back(&mut self, c: u8)
-        ensures { memory_of state self.new ≡ put_back model (memory_of state self.old) c }
+        ensures { memory_of R.state self.new ≡ put_back R.model (memory_of R.state self.old) c }
     {
         self.free.put(c);
     }

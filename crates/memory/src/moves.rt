@@ -24,7 +24,7 @@ pub fn complete<R: Reclaimer>(
     stage: &mut Stage,
     answer: Answer,
 ) -> Answer
-    ensures after { memory_of state memory.new ≡ left model (memory_of state memory.old) session }
+    ensures after { memory_of R.state memory.new ≡ left R.model (memory_of R.state memory.old) session }
     ensures stage { stage.new ≡ Outside }
     ensures answer { result ≡ answer }
 {

@@ -10,7 +10,7 @@ use std::alloc::Global;
 impl<R: Reclaimer> Memory<R> {
     // Empty lists and all cells free, over a reclaimer, which comes back where memory is wanting.
     pub fn new(heap: Global, reclaimer: R) -> Result<Memory<R>, R>
-        ensures { elim result [ Ok m ↦ memory_of state m ≡ all_free model (state reclaimer) | Err back ↦ back ≡ reclaimer ] }
+        ensures { elim result [ Ok m ↦ memory_of R.state m ≡ all_free R.model (R.state reclaimer) | Err back ↦ back ≡ reclaimer ] }
     {
         let (_, cells) = reclaimer.sizes();
         let Ok(free) = FreeStack::all(heap, cells) else {

@@ -9,9 +9,9 @@ use reclaim::Reclaimer;
 impl<R: Reclaimer> Memory<R> {
     // The held cells are counted before and after: what is missing was given back.
     fn collect_all(&mut self) -> u16
-        ensures after { memory_of state self.new ≡ (tidyings model (memory_of state self.old)).memory }
-        ensures value { result ≡ (tidyings model (memory_of state self.old)).given }
-        ensures none { EndedAtNone model (memory_of state self.new).reclaimer }
+        ensures after { memory_of R.state self.new ≡ (tidyings R.model (memory_of R.state self.old)).memory }
+        ensures value { result ≡ (tidyings R.model (memory_of R.state self.old)).given }
+        ensures none { EndedAtNone R.model (memory_of R.state self.new).reclaimer }
     {
         let held = self.reclaimer.held_count();
         while let Some(c) = self.reclaimer.collect() {
@@ -22,9 +22,9 @@ impl<R: Reclaimer> Memory<R> {
 
     // Collects until none is answered, frees each cell answered, and says how many they were.
     pub fn tidy(&mut self) -> u16
-        ensures after { memory_of state self.new ≡ (tidyings model (memory_of state self.old)).memory }
-        ensures value { result ≡ (tidyings model (memory_of state self.old)).given }
-        ensures none { EndedAtNone model (memory_of state self.new).reclaimer }
+        ensures after { memory_of R.state self.new ≡ (tidyings R.model (memory_of R.state self.old)).memory }
+        ensures value { result ≡ (tidyings R.model (memory_of R.state self.old)).given }
+        ensures none { EndedAtNone R.model (memory_of R.state self.new).reclaimer }
     {
         self.collect_all()
     }

@@ -22,6 +22,7 @@
 //     hazard.collect(); // None: slot 1 of session 0 keeps cell 7
 //     hazard.leave(0)?;
 //     hazard.collect(); // Some(7)
+#![tactic(auto)]
 
 mod checks;
 mod epoch;

@@ -15,7 +15,7 @@ pub struct Unlinked {
 impl Unlinked {
     // The token of a cell that the reclaimer knows and does not hold.
     pub fn of<R: Reclaimer>(reclaimer: &R, cell: u8) -> Option<Unlinked>
-        ensures { result ≡ owed model (state reclaimer.now) cell }
+        ensures { result ≡ owed R.model (R.state reclaimer.now) cell }
     {
         let (_, cells) = reclaimer.sizes();
         if u16::from(cell) < cells && !reclaimer.is_held(cell) {

@@ -1,4 +1,6 @@
 // Reads schedules: the text that says which board to open and which words to give it.
+#![tactic(auto)]
+
 pub mod content;
 pub mod expected;
 mod fault;

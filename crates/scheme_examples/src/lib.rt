@@ -1,4 +1,5 @@
 // Examples of the schemes and of the orders, as tests, and two ways to hand a cell to a reclaimer.
+#![tactic(auto)]
 
 ghost use Rattle.std.specs.Prelude.{◌≡◌, is_some};
 ghost use Rattle.reclaim.specs.Model.{owed, after_retire};
@@ -8,8 +9,8 @@ use reclaim::{Reclaimer, Refusal, Unlinked, Unpaid};
 
 // Retires the cell, and says whether there was such a cell that was not held.
 pub fn retire_cell<R: Reclaimer>(reclaimer: &mut R, cell: u8) -> bool
-    ensures answer { result ≡ is_some (owed model (state reclaimer.old) cell) }
-    ensures after { state reclaimer.new ≡ after_retire model (state reclaimer.old) cell }
+    ensures answer { result ≡ is_some (owed R.model (R.state reclaimer.old) cell) }
+    ensures after { R.state reclaimer.new ≡ after_retire R.model (R.state reclaimer.old) cell }
 {
     match Unlinked::of(reclaimer, cell) {
         Some(debt) => {
@@ -22,7 +23,7 @@ pub fn retire_cell<R: Reclaimer>(reclaimer: &mut R, cell: u8) -> bool
 
 // Makes a token beside one reclaimer and offers it to another. A refused token comes back, and its maker takes it.
 pub fn offer<R: Reclaimer>(maker: &mut R, taker: &mut R, cell: u8) -> Option<Refusal>
-    ensures { result ≡ why_refused model (state maker.old) (state taker.old) cell }
+    ensures { result ≡ why_refused R.model (R.state maker.old) (R.state taker.old) cell }
 {
     let debt = Unlinked::of(maker, cell)?;
     match taker.retire(debt) {

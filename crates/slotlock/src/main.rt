@@ -1,4 +1,6 @@
 // The program: runs schedules and loads on a slot-lock board.
+#![tactic(auto)]
+
 mod answers;
 mod help;
 

@@ -20,7 +20,7 @@ fn play_over<T: ItemOrder>(
     words: &[u32],
     answers: &mut [AnswerRecord],
 ) -> Report
-    ensures { ReportedBy (scheme_numbered scheme) sessions cells order value items.now words.now answers.old answers.new result }
+    ensures { ReportedBy (scheme_numbered scheme) sessions cells T.order T.value items.now words.now answers.old answers.new result }
 {
     match scheme_of(scheme) {
         None => refused(1),

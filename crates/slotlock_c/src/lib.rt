@@ -3,6 +3,8 @@
 // No board crosses this border, so each call opens a new one over a new reclaimer and lets both go at its end.
 // What a call answers is an `AnswerRecord` for each word and a `Report`. A call that is refused says why by a number
 // and leaves the records as they were.
+#![tactic(auto)]
+
 mod bytes;
 mod exports;
 mod record;

@@ -23,8 +23,8 @@ fn answer_at<R: Reclaimer, T: ItemOrder>(
     at: usize,
 )
     requires { at < length answers.old }
-    ensures after { view state board.new ≡ (worded model (compared order value items.now) (length items.now) (view state board.old) word).after }
-    ensures written { answers.new ≡ slice_set answers.old at (as_record (worded model (compared order value items.now) (length items.now) (view state board.old) word).answer) }
+    ensures after { view R.state board.new ≡ (worded R.model (compared T.order T.value items.now) (length items.now) (view R.state board.old) word).after }
+    ensures written { answers.new ≡ slice_set answers.old at (as_record (worded R.model (compared T.order T.value items.now) (length items.now) (view R.state board.old) word).answer) }
 {
     answers[at] = record_of(board.word(items, word));
 }
@@ -37,8 +37,8 @@ fn answer_all<R: Reclaimer, T: ItemOrder>(
     answers: &mut [AnswerRecord],
 )
     requires { length words.now ≤ length answers.old }
-    ensures after { view state board.new ≡ (ran model (compared order value items.now) (length items.now) (view state board.old) words.now).after }
-    ensures written { answers.new ≡ map as_record (ran model (compared order value items.now) (length items.now) (view state board.old) words.now).answers ++ drop (length words.now) answers.old }
+    ensures after { view R.state board.new ≡ (ran R.model (compared T.order T.value items.now) (length items.now) (view R.state board.old) words.now).after }
+    ensures written { answers.new ≡ map as_record (ran R.model (compared T.order T.value items.now) (length items.now) (view R.state board.old) words.now).answers ++ drop (length words.now) answers.old }
 {
     for (i, word) in words.iter().enumerate() {
         answer_at(board, items, *word, answers, i);
@@ -47,7 +47,7 @@ fn answer_all<R: Reclaimer, T: ItemOrder>(
 
 // The report of a board after so many words.
 fn report_of<R: Reclaimer>(board: &Board<R>, words: usize) -> Report
-    ensures { result ≡ done model (view state board.now) words }
+    ensures { result ≡ done R.model (view R.state board.now) words }
 {
     let (held, free) = board.tallies();
     Report {
@@ -68,7 +68,7 @@ fn run_on<R: Reclaimer + Drop, T: ItemOrder>(
 ) -> Report
     requires enough { length words.now ≤ length answers.old }
     requires few { length items.now ≤ 1024 }
-    ensures { RunOn model order value (state reclaimer) items.now words.now answers.old answers.new result }
+    ensures { RunOn R.model T.order T.value (R.state reclaimer) items.now words.now answers.old answers.new result }
 {
     match Board::open(heap, reclaimer, items.len() as u16) {
         Err(unopened) => {
@@ -94,7 +94,7 @@ pub(crate) fn run_over<R: Reclaimer + Drop, T: ItemOrder>(
     words: &[u32],
     answers: &mut [AnswerRecord],
 ) -> Report
-    ensures { RunOver model state order value made items.now words.now answers.old answers.new result }
+    ensures { RunOver R.model R.state T.order T.value made items.now words.now answers.old answers.new result }
 {
     if answers.len() < words.len() {
         return refused(Reason::ShortAnswers.code());

@@ -1,4 +1,6 @@
 // Runs loads over every reclaimer, a range of sizes, both sorts of items and every mode, and prints their check sums.
+#![tactic(auto)]
+
 use loads::{ItemSort, Load, Mode, Outcome, Report, mix};
 use schedule::Scheme;
 use std::alloc::Global;

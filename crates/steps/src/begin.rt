@@ -17,7 +17,7 @@ fn enter_at<R: Reclaimer>(
     stage: &mut Stage,
     first: Stage,
 ) -> Answer
-    ensures after { memory_of state memory.new ≡ entered model (memory_of state memory.old) session }
+    ensures after { memory_of R.state memory.new ≡ entered R.model (memory_of R.state memory.old) session }
     ensures stage { stage.new ≡ first }
     ensures answer { result ≡ under_way }
 {
@@ -32,7 +32,7 @@ fn seek_first<R: Reclaimer>(
     stage: &mut Stage,
     goal: Goal,
 ) -> Answer
-    ensures after { memory_of state memory.new ≡ entered model (memory_of state memory.old) session }
+    ensures after { memory_of R.state memory.new ≡ entered R.model (memory_of R.state memory.old) session }
     ensures stage { stage.new ≡ Find goal ReadFront }
     ensures answer { result ≡ under_way }
 {
@@ -63,9 +63,9 @@ fn begin_push<R: Reclaimer>(
     stage: &mut Stage,
     place: u16,
 ) -> Answer
-    ensures after { memory_of state memory.new ≡ (fetched model (memory_of state memory.old) session pushing place (memory_of state memory.old).free).memory }
-    ensures stage { stage.new ≡ (fetched model (memory_of state memory.old) session pushing place (memory_of state memory.old).free).stage }
-    ensures answer { result ≡ (fetched model (memory_of state memory.old) session pushing place (memory_of state memory.old).free).answer }
+    ensures after { memory_of R.state memory.new ≡ (fetched R.model (memory_of R.state memory.old) session pushing place (memory_of R.state memory.old).free).memory }
+    ensures stage { stage.new ≡ (fetched R.model (memory_of R.state memory.old) session pushing place (memory_of R.state memory.old).free).stage }
+    ensures answer { result ≡ (fetched R.model (memory_of R.state memory.old) session pushing place (memory_of R.state memory.old).free).answer }
 {
     let Some(fresh) = memory.fresh() else {
         return no_cell(stage);
@@ -81,9 +81,9 @@ fn begin_insert<R: Reclaimer>(
     stage: &mut Stage,
     place: u16,
 ) -> Answer
-    ensures after { memory_of state memory.new ≡ (fetched model (memory_of state memory.old) session inserting place (memory_of state memory.old).free).memory }
-    ensures stage { stage.new ≡ (fetched model (memory_of state memory.old) session inserting place (memory_of state memory.old).free).stage }
-    ensures answer { result ≡ (fetched model (memory_of state memory.old) session inserting place (memory_of state memory.old).free).answer }
+    ensures after { memory_of R.state memory.new ≡ (fetched R.model (memory_of R.state memory.old) session inserting place (memory_of R.state memory.old).free).memory }
+    ensures stage { stage.new ≡ (fetched R.model (memory_of R.state memory.old) session inserting place (memory_of R.state memory.old).free).stage }
+    ensures answer { result ≡ (fetched R.model (memory_of R.state memory.old) session inserting place (memory_of R.state memory.old).free).answer }
 {
     let Some(fresh) = memory.fresh() else {
         return no_cell(stage);
@@ -107,9 +107,9 @@ pub(crate) fn begin_op<R: Reclaimer>(
     stage: &mut Stage,
     op: Op,
 ) -> Answer
-    ensures after { memory_of state memory.new ≡ (beginning model (memory_of state memory.old) session op).memory }
-    ensures stage { stage.new ≡ (beginning model (memory_of state memory.old) session op).stage }
-    ensures answer { result ≡ (beginning model (memory_of state memory.old) session op).answer }
+    ensures after { memory_of R.state memory.new ≡ (beginning R.model (memory_of R.state memory.old) session op).memory }
+    ensures stage { stage.new ≡ (beginning R.model (memory_of R.state memory.old) session op).stage }
+    ensures answer { result ≡ (beginning R.model (memory_of R.state memory.old) session op).answer }
 {
     match op {
         Op::Insert { place } => begin_insert(memory, session, stage, place),

@@ -22,9 +22,9 @@ pub fn act<R: Reclaimer, T: ItemOrder>(
     stage: &mut Stage,
     kind: Kind,
 ) -> Answer
-    ensures after { memory_of state memory.new ≡ (moving model (compared order value items.now) (memory_of state memory.old) session stage.old kind).memory }
-    ensures stage { stage.new ≡ (moving model (compared order value items.now) (memory_of state memory.old) session stage.old kind).stage }
-    ensures answer { result ≡ (moving model (compared order value items.now) (memory_of state memory.old) session stage.old kind).answer }
+    ensures after { memory_of R.state memory.new ≡ (moving R.model (compared T.order T.value items.now) (memory_of R.state memory.old) session stage.old kind).memory }
+    ensures stage { stage.new ≡ (moving R.model (compared T.order T.value items.now) (memory_of R.state memory.old) session stage.old kind).stage }
+    ensures answer { result ≡ (moving R.model (compared T.order T.value items.now) (memory_of R.state memory.old) session stage.old kind).answer }
 {
     match (*stage, kind) {
         (Stage::Outside, Kind::Begin(op)) => begin_op(memory, session, stage, op),

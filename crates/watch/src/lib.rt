@@ -1,4 +1,6 @@
 // Watches a board while words are given to it, and shows what it has become.
+#![tactic(auto)]
+
 pub mod decided;
 pub mod picture;
 pub mod watch;

@@ -5,8 +5,8 @@ use Rattle.reclaim.specs.CellLemmas.{removed_gone, gone_below, gone_apart}
 use Rattle.reclaim.proofs.Flags.{flag_down}
 use Rattle.reclaim.proofs.held.Held.give.Goals as goal
 
-pub invariant-of-self : goal.invariant-of-self
-invariant-of-self g c =
+pub invariant_of-self : goal.invariant_of-self
+invariant_of-self g c =
     let h = c.args.self.now in
     let xs = c.args.self.now.list.items in
     let x = get_or c.args.self.now.list.items c.args.at c.remove-cell.result in

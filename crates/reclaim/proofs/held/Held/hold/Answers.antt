@@ -5,16 +5,16 @@ use Rattle.reclaim.specs.CellLemmas.{room, pushed}
 use Rattle.reclaim.proofs.Flags.{flag_up}
 use Rattle.reclaim.proofs.held.Held.hold.Goals as goal
 
-pub push-reserved-requires : goal.push-reserved-requires
-push-reserved-requires g c =
+pub push_reserved-requires : goal.push_reserved-requires
+push_reserved-requires g c =
     let h = c.args.self.now in
     let r = room cell c.args.self.now.list.items c.args.self.now.cells c.args.debt.cell h.apart h.below c.requires.below c.requires.apart in
     omega (arith, h.list.ok.0, h.room)
 
-pub invariant-of-self : goal.invariant-of-self
-invariant-of-self g c =
+pub invariant_of-self : goal.invariant_of-self
+invariant_of-self g c =
     let h = c.args.self.now in
-    let p = pushed cell c.args.self.now.list.items c.push-reserved.new.self.items (record { cell = c.paid-cell.result; note = c.args.note }) c.args.self.now.cells
-    c.push-reserved.ensures.items h.below h.apart (omega (arith, c.requires.below)) (ap (has cell c.args.self.now.list.items) c.paid-cell.ensures ∙ c.requires.apart) in
-    let told = flag_up cell c.args.self.now.list.items c.push-reserved.new.self.items (record { cell = c.paid-cell.result; note = c.args.note }) h.flags c.paid-cell.result c.push-reserved.ensures.items refl (omega (arith, h.every)) h.told in
-    (h.few, (p.0, (p.1, (omega (arith, h.room, c.push-reserved.ensures.capacity), (length-set h.flags _ _ ∙ h.every, (told, tt))))))
+    let p = pushed cell c.args.self.now.list.items c.push_reserved.new.self.items (record { cell = c.paid-cell.result; note = c.args.note }) c.args.self.now.cells
+    c.push_reserved.ensures.items h.below h.apart (omega (arith, c.requires.below)) (ap (has cell c.args.self.now.list.items) c.paid-cell.ensures ∙ c.requires.apart) in
+    let told = flag_up cell c.args.self.now.list.items c.push_reserved.new.self.items (record { cell = c.paid-cell.result; note = c.args.note }) h.flags c.paid-cell.result c.push_reserved.ensures.items refl (omega (arith, h.every)) h.told in
+    (h.few, (p.0, (p.1, (omega (arith, h.room, c.push_reserved.ensures.capacity), (length-set h.flags _ _ ∙ h.every, (told, tt))))))

@@ -3,7 +3,7 @@ use Rattle.reclaim.specs.Table.{cell}
 use Rattle.reclaim.proofs.Flags.{flags_new}
 use Rattle.reclaim.proofs.held.Held.new.Goals as goal
 
-pub invariant-of-result : goal.invariant-of-result
-invariant-of-result g c =
+pub invariant_of-result : goal.invariant_of-result
+invariant_of-result g c =
     let e : vec_items c.in-Ok.list ≡ [] = search rules in
     (search rules, (search rules, (search rules, (search rules, (refl, (flags_new cell (vec_items c.in-Ok.list) 256 e, tt))))))

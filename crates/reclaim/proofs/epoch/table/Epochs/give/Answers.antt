@@ -1,8 +1,8 @@
 use Rattle.reclaim.specs.EpochLaws.{aging_removed}
 use Rattle.reclaim.proofs.epoch.table.Epochs.give.Goals as goal
 
-pub invariant-of-self : goal.invariant-of-self
-invariant-of-self c =
+pub invariant_of-self : goal.invariant_of-self
+invariant_of-self c =
     let h = c.args.self.now in (
       h.few,
       (

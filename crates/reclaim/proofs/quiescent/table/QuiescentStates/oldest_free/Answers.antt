@@ -31,8 +31,8 @@ loop-at-preserved c =
 pub returns : goal.returns
 returns c = none_at cell waits c.args.self.now.held.list.items none (λ k l. c.loop-at.invariant k (omega (arith, c.args.self.now.held.list.ok.0)))
 
-pub slice-bounds-nobody-end : goal.slice-bounds-nobody-end
-slice-bounds-nobody-end c =
+pub slice_bounds-nobody-end : goal.slice_bounds-nobody-end
+slice_bounds-nobody-end c =
     let h = c.args.self.now in
     let e = looked_at c.args.self.now c.loop-at.at c.len-at-end.result c.index.result.now c.loop-at-test.true c.len-at-end.ensures c.index.ensures in
     sym (eqb-true (length c.index.result.now.note) 8 (ap full e.1 ∙ pass_at full c.args.self.now.held.list.items c.loop-at.at none e.0 h.full_records))
