@@ -20,7 +20,7 @@ invariant_of-held c =
     c.args.held.now.list.items _ c.args.held.now.list.len c.deref_mut-held_cell-items.ensures.value c.loop-held_cell-test.false h.list.ok.0 in
     let k = cells_kept cell (strike c.args.session) (λ x. refl) c.args.held.now.list.items _ c.args.held.now.cells e h.below h.apart in
     let t = flags_kept cell (strike c.args.session) (λ x. refl) c.args.held.now.list.items _ c.args.held.now.flags e h.told in
-    (h.few, (k.0, (k.1, (h.room, (h.every, (t, tt))))))
+    record { few = h.few; below = k.0; apart = k.1; room = h.room; every = h.every; told = t }
 
 pub returns : goal.returns
 returns c = record {

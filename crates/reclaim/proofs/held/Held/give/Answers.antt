@@ -13,7 +13,7 @@ invariant_of-self g c =
     let ys = c.remove-cell.new.self.items in
     let gone = removed_gone c.args.self.now.list.items c.remove-cell.new.self.items c.args.at c.remove-cell.result c.requires c.remove-cell.ensures.items in
     let told = flag_down cell xs x ys h.flags c.remove-cell.result.cell gone h.apart (ap cell (sym c.remove-cell.ensures.value)) (omega (arith, h.every)) h.told in
-    (h.few, (gone_below cell xs x ys gone h.cells h.below, (gone_apart cell xs x ys gone h.apart, (omega (arith, h.room, c.remove-cell.ensures.capacity), (length-set h.flags _ _ ∙ h.every, (told, tt))))))
+    record { few = h.few; below = gone_below cell xs x ys gone h.cells h.below; apart = gone_apart cell xs x ys gone h.apart; room = omega (arith, h.room, c.remove-cell.ensures.capacity); every = length-set h.flags _ _ ∙ h.every; told = told }
 
 pub returns : goal.returns
 returns g c = record {

@@ -17,4 +17,4 @@ invariant_of-self g c =
     let p = pushed cell c.args.self.now.list.items c.push_reserved.new.self.items (record { cell = c.paid-cell.result; note = c.args.note }) c.args.self.now.cells
     c.push_reserved.ensures.items h.below h.apart (omega (arith, c.requires.below)) (ap (has cell c.args.self.now.list.items) c.paid-cell.ensures ∙ c.requires.apart) in
     let told = flag_up cell c.args.self.now.list.items c.push_reserved.new.self.items (record { cell = c.paid-cell.result; note = c.args.note }) h.flags c.paid-cell.result c.push_reserved.ensures.items refl (omega (arith, h.every)) h.told in
-    (h.few, (p.0, (p.1, (omega (arith, h.room, c.push_reserved.ensures.capacity), (length-set h.flags _ _ ∙ h.every, (told, tt))))))
+    record { few = h.few; below = p.0; apart = p.1; room = omega (arith, h.room, c.push_reserved.ensures.capacity); every = length-set h.flags _ _ ∙ h.every; told = told }

@@ -6,4 +6,4 @@ use Rattle.reclaim.proofs.held.Held.new.Goals as goal
 pub invariant_of-result : goal.invariant_of-result
 invariant_of-result g c =
     let e : vec_items c.in-Ok.list ≡ [] = search rules in
-    (search rules, (search rules, (search rules, (search rules, (refl, (flags_new cell (vec_items c.in-Ok.list) 256 e, tt))))))
+    record { few = search rules; below = search rules; apart = search rules; room = search rules; every = refl; told = flags_new cell (vec_items c.in-Ok.list) 256 e }

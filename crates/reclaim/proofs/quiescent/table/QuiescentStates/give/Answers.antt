@@ -7,4 +7,4 @@ invariant_of-self c =
     let h = c.args.self.now in
     let g = removed_good c.args.self.now.inside c.args.self.now.held.list.items c.give.new.self.list.items c.args.at (record { cell = 0; note = [] })
     c.requires c.give.ensures.after h.still h.full_records in
-    (h.few, (h.eight, (h.past, (g.0, (g.1, tt)))))
+    record { few = h.few; eight = h.eight; past = h.past; still = g.0; full_records = g.1 }

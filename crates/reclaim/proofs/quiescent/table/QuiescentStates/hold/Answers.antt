@@ -6,4 +6,4 @@ invariant_of-self c =
     let h = c.args.self.now in
     let g = held_good c.args.self.now.inside c.args.self.now.held.list.items c.hold.new.self.list.items (record { cell = c.args.debt.cell; note = c.args.users })
     c.hold.ensures.after c.requires.eight c.requires.inside h.still h.full_records in
-    (h.few, (h.eight, (h.past, (g.0, (g.1, tt)))))
+    record { few = h.few; eight = h.eight; past = h.past; still = g.0; full_records = g.1 }

@@ -9,7 +9,7 @@ pub invariant_of-self : goal.invariant_of-self
 invariant_of-self c =
     let h = c.args.self.now in
     let g = struck_good c.args.self.now.inside c.args.self.now.held.list.items c.strike_all.new.held.list.items c.args.session c.strike_all.ensures.items h.still h.full_records in
-    (h.few, (h.eight, (h.past, (g.0, (g.1, tt)))))
+    record { few = h.few; eight = h.eight; past = h.past; still = g.0; full_records = g.1 }
 
 pub returns : goal.returns
 returns c = record {
