@@ -33,7 +33,7 @@ module _ {State : Type 0} (M : Model State) (law : Lawful M) (sessions cells : �
   pub same_held : (x y : State) → ((c : ℕ) → M.held y c ≡ M.held x c) → SameHeld (meaning x) (meaning y)
   same_held x y f = record { on = λ c h. f c ∙ h; back = λ c h. sym (f c) ∙ h }
 
-  pub keeps_on : (x y : State) → ((t i c : ℕ) → model.Goes_on M x y t i c) → KeepsOn (meaning x) (meaning y)
+  pub keeps_on : (x y : State) → ((t i c : ℕ) → model.GoesOn M x y t i c) → KeepsOn (meaning x) (meaning y)
   keeps_on x y f = record { names = λ t i c h. (f t i c).names h; keeps = λ t i c h. (f t i c).keeps h }
 
   pub is_false : (b : Bool) → (b ≡ true → ⊥) → b ≡ false
@@ -67,7 +67,7 @@ module _ {State : Type 0} (M : Model State) (law : Lawful M) (sessions cells : �
   collected x None y g =
       record { inside = same_inside x y g.inside; held = same_held x y g.held; slots = keeps_on x y g.slots; why = why g.why }
     where
-      why : model.Idle-or-busy M x → ((c : ℕ) → M.held x c ≡ true → ⊥) ⊎ ((s : ℕ) × (M.inside x s ≡ true))
+      why : model.IdleOrBusy M x → ((c : ℕ) → M.held x c ≡ true → ⊥) ⊎ ((s : ℕ) × (M.inside x s ≡ true))
       why (inl f) = inl (λ c h. true≢false (sym h ∙ f c))
       why (inr p) = inr p
   collected x (Some c) y g =
