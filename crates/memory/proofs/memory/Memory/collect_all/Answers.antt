@@ -15,19 +15,19 @@ loop-c-preserved g c =
     turn g.R.Reclaimer.model g.met.R.Reclaimer.lawful (memory_of g.R.Reclaimer.state c.loop-c.self) _ _ _ _ _
     (g.met.R.Reclaimer.good c.loop-c.self.reclaimer) (sym c.collect.ensures.answer ∙ c.in-Some.is) (search rules) c.loop-c.invariant
 
-pub overflow-sub-result : goal.overflow-sub-result
-overflow-sub-result g c =
+pub overflow_sub-result : goal.overflow_sub-result
+overflow_sub-result g c =
     let x = g.R.Reclaimer.state c.loop-c.self.reclaimer in
-    let f = stays g.R.Reclaimer.model g.met.R.Reclaimer.lawful x (g.met.R.Reclaimer.good c.loop-c.self.reclaimer) (sym c.collect.ensures.answer ∙ c.in-default.is) in
+    let f = stays g.R.Reclaimer.model g.met.R.Reclaimer.lawful x (g.met.R.Reclaimer.good c.loop-c.self.reclaimer) (sym c.collect.ensures.answer ∙ c.in_default.is) in
     let e = ap g.R.Reclaimer.model.count c.collect.ensures.after in
-    omega (arith, c.loop-c.invariant.2, c.held-count.ensures)
+    omega (arith, c.loop-c.invariant.2, c.held_count.ensures)
 
 pub returns : goal.returns
 returns g c =
     let e = ends g.R.Reclaimer.model g.met.R.Reclaimer.lawful (memory_of g.R.Reclaimer.state c.loop-c.self) _ _ _ _
-    (g.met.R.Reclaimer.good c.loop-c.self.reclaimer) (sym c.collect.ensures.answer ∙ c.in-default.is) (search rules) c.loop-c.invariant in
+    (g.met.R.Reclaimer.good c.loop-c.self.reclaimer) (sym c.collect.ensures.answer ∙ c.in_default.is) (search rules) c.loop-c.invariant in
     record {
       after = e.0;
-      value = ap (λ k. c.held-count-held.result - k) c.held-count.ensures ∙ e.1;
-      none = (g.R.Reclaimer.state c.loop-c.self.reclaimer, sym c.collect.ensures.answer ∙ c.in-default.is, sym c.collect.ensures.after);
+      value = ap (λ k. c.held_count-held.result - k) c.held_count.ensures ∙ e.1;
+      none = (g.R.Reclaimer.state c.loop-c.self.reclaimer, sym c.collect.ensures.answer ∙ c.in_default.is, sym c.collect.ensures.after);
     }
