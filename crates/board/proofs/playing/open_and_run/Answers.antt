@@ -7,7 +7,7 @@ pub returns-in-Ok : goal.returns-in-Ok
 returns-in-Ok g c =
     let o = c.in-Ok.ensures in
     played g.R.Reclaimer.model g.R.Reclaimer.state g.T.ItemOrder.order g.T.ItemOrder.value c.args.reclaimer c.args.items.now c.args.words.now
-    c.args.answers.now _ (view g.R.Reclaimer.state c.in-Ok.opened) _ (search rules) o.2 o.3 c.do-run.ensures.after c.do-run.ensures.answers c.do-run.ensures.promise
+    c.args.answers.now _ (view g.R.Reclaimer.state c.in-Ok.opened) _ (search rules) o.2 o.3 c.do_run.ensures.after c.do_run.ensures.answers c.do_run.ensures.promise
 
 pub returns-in-Err : goal.returns-in-Err
 returns-in-Err g c =

@@ -4,8 +4,8 @@ use Rattle.memory.specs.Of.{memory_of}
 use Rattle.steps.proofs.Fetching.{fetch_none}
 use Rattle.steps.proofs.begin.begin_push.Goals as goal
 
-pub returns-in-default : goal.returns-in-default
-returns-in-default g c =
+pub returns-in_default : goal.returns-in_default
+returns-in_default g c =
     let e = fetch_none g.R.Reclaimer.model (memory_of g.R.Reclaimer.state c.args.memory.now) c.args.session pushing c.args.place
-    (sym c.fresh.ensures.value ∙ c.in-default.is) in
-    record { after = c.fresh.ensures.after ∙ sym e.0; stage = c.no-cell.ensures.stage ∙ sym e.1; answer = c.no-cell.ensures.answer ∙ sym e.2 }
+    (sym c.fresh.ensures.value ∙ c.in_default.is) in
+    record { after = c.fresh.ensures.after ∙ sym e.0; stage = c.no_cell.ensures.stage ∙ sym e.1; answer = c.no_cell.ensures.answer ∙ sym e.2 }
