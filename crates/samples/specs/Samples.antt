@@ -48,14 +48,14 @@ given M x (retires c ∷ calls) = given M (after_retire M x c) calls
 given M x (collects ∷ calls) = M.picks x ∷ given M (M.collects x) calls
 
 abbrev pub Holds : Sample → Type 0
-Holds (answers hazard_pointers s c items words out) = (board_run hazard.hazard (new (hazard.empty-row false) s c) items words).answers ≡ out
+Holds (answers hazard_pointers s c items words out) = (board_run hazard.hazard (new (hazard.empty_row false) s c) items words).answers ≡ out
 Holds (answers epochs s c items words out) = (board_run epoch.epochs (new None s c) items words).answers ≡ out
 Holds (answers quiescent_states s c items words out) = (board_run quiescent.quiescent (new false s c) items words).answers ≡ out
-Holds (stands hazard_pointers s c items words t g) = (board_run hazard.hazard (new (hazard.empty-row false) s c) items words).after.stage t ≡ g
+Holds (stands hazard_pointers s c items words t g) = (board_run hazard.hazard (new (hazard.empty_row false) s c) items words).after.stage t ≡ g
 Holds (stands epochs s c items words t g) = (board_run epoch.epochs (new None s c) items words).after.stage t ≡ g
 Holds (stands quiescent_states s c items words t g) = (board_run quiescent.quiescent (new false s c) items words).after.stage t ≡ g
 Holds (compares x y o) = order_bytes x y ≡ o
-Holds (gives hazard_pointers s c calls out) = given hazard.hazard (new (hazard.empty-row false) s c) calls ≡ out
+Holds (gives hazard_pointers s c calls out) = given hazard.hazard (new (hazard.empty_row false) s c) calls ≡ out
 Holds (gives epochs s c calls out) = given epoch.epochs (new None s c) calls ≡ out
 Holds (gives quiescent_states s c calls out) = given quiescent.quiescent (new false s c) calls ≡ out
 

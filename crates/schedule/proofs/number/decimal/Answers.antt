@@ -4,4 +4,4 @@ use Rattle.schedule.proofs.number.decimal.Goals as goal
 
 pub returns-then-bytes-eq43 : goal.returns-then-bytes-eq43
 returns-then-bytes-eq43 c =
-    λ h. no_plus _ (ap (λ text. get_or text 0 0) (sym c.as-bytes-bytes.ensures.value) ∙ c.if-bytes-eq43.true) h.0
+    λ h. no_plus _ (ap (λ text. get_or text 0 0) (sym c.as_bytes-bytes.ensures.value) ∙ c.if-bytes-eq43.true) h.0

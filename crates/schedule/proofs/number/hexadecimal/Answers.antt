@@ -6,17 +6,17 @@ use Rattle.std.proofs.lemmas.List.{take_all}
 use Rattle.schedule.proofs.Numerals.{digit_at, seven_digits}
 use Rattle.schedule.proofs.number.hexadecimal.Goals as goal
 
-pub returns-in-default : goal.returns-in-default
-returns-in-default c = λ h. c.in-default.ensures (digit_at 16 c.args.digits.now c.loop-b.b-index h.0.1 c.loop-b-test.true)
+pub returns-in_default : goal.returns-in_default
+returns-in_default c = λ h. c.in_default.ensures (digit_at 16 c.args.digits.now c.loop-b.b-index h.0.1 c.loop-b-test.true)
 
-pub overflow-mul-n : goal.overflow-mul-n
-overflow-mul-n c =
+pub overflow_mul-n : goal.overflow_mul-n
+overflow_mul-n c =
     let few : length (take c.loop-b.b-index c.args.digits.now) ≤ 7 = simp length-take (omega arith) in
     let small = seven_digits _ c.loop-b.invariant.1 few in
     omega (arith, small, c.loop-b.invariant.0)
 
-pub overflow-add-n : goal.overflow-add-n
-overflow-add-n c =
+pub overflow_add-n : goal.overflow_add-n
+overflow_add-n c =
     let few : length (take c.loop-b.b-index c.args.digits.now) ≤ 7 = simp length-take (omega arith) in
     let small = seven_digits _ c.loop-b.invariant.1 few in
     omega (arith, small, c.loop-b.invariant.0)

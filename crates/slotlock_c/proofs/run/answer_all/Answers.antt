@@ -20,11 +20,11 @@ loop-i-preserved g c =
     let n = length c.args.items.now in
     let old = c.args.answers.now in
     let i = c.loop-i.i in
-    let e = ran_more M cmp n (view g.R.Reclaimer.state c.args.board.now) c.args.words.now i (get_or c.args.words.now i 0) _ _ _ c.loop-i-test.true refl c.loop-i.invariant.0 c.answer-at.ensures.after refl in
+    let e = ran_more M cmp n (view g.R.Reclaimer.state c.args.board.now) c.args.words.now i (get_or c.args.words.now i 0) _ _ _ c.loop-i-test.true refl c.loop-i.invariant.0 c.answer_at.ensures.after refl in
     let k : length (take i c.args.words.now) ≡ i = simp length-take (omega arith) in
     let room : i < length old = omega (arith, c.requires) in (
       e.0,
-      c.answer-at.ensures.written ∙ (written_more _ old c.loop-i.answers i _ (as_record no)
+      c.answer_at.ensures.written ∙ (written_more _ old c.loop-i.answers i _ (as_record no)
           (length-map _ _ ∙ (ran_length M cmp n _ _ ∙ k)) room c.loop-i.invariant.1
           ∙ ap (λ x. x ++ drop (i + 1) old) (sym (map_push as_record _ _) ∙ ap (map as_record) e.1)),
     )

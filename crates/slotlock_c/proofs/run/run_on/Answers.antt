@@ -28,7 +28,7 @@ returns-in-Ok g c =
     inl (record {
       enough = c.requires.enough;
       few = c.requires.few;
-      report = c.report-of.ensures ∙ ap (λ m. done M m (length words)) (c.answer-all.ensures.after ∙ ap (λ m. (ran M cmp (length items) m words).after) o.2);
-      written = c.answer-all.ensures.written ∙ ap (λ m. map as_record (ran M cmp (length items) m words).answers ++ drop (length words) c.args.answers.now) o.2;
+      report = c.report_of.ensures ∙ ap (λ m. done M m (length words)) (c.answer_all.ensures.after ∙ ap (λ m. (ran M cmp (length items) m words).after) o.2);
+      written = c.answer_all.ensures.written ∙ ap (λ m. map as_record (ran M cmp (length items) m words).answers ++ drop (length words) c.args.answers.now) o.2;
       promise = whole M g.met.R.Reclaimer.lawful g.T.ItemOrder.order g.T.ItemOrder.value t.same t.itself t.sides t.smaller items (g.R.Reclaimer.state c.args.reclaimer) words o.3;
     })
