@@ -114,7 +114,7 @@ fn print_run<R: Reclaimer>(
     answers: &[Answer],
     board: &Board<R>,
 ) -> Result<(), Stop> {
-    let mut out = BufWriter::new(rt.stdout());
+    let mut out = BufWriter::new(rt.alloc(), rt.stdout())?;
     print_all(&mut out, answers)?;
     print_tallies(&mut out, board)?;
     out.flush()?;
@@ -164,7 +164,7 @@ impl Answers<'_> {
         board: &mut Board<R>,
         items: &[T],
     ) -> Result<(), Stop> {
-        let mut out = BufWriter::new(self.rt.stdout());
+        let mut out = BufWriter::new(self.rt.alloc(), self.rt.stdout())?;
         in_stretches(self.rt.alloc(), &mut out, board, items, self.schedule)?;
         print_tallies(&mut out, board)?;
         out.flush()?;

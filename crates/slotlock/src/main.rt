@@ -8,12 +8,9 @@ use console::{Stop, tell};
 use help::HELP;
 use std::env;
 use std::env::Args;
+use std::process::ExitCode;
 use tables::{compare, run};
 use trials::{fuzz, load};
-
-// The command ended with a message.
-#[derive(Clone, Copy)]
-struct Failed;
 
 fn print_help(rt: &HostRuntime) -> Result<(), Stop> {
     print!(rt; "{HELP}")?;
@@ -52,17 +49,17 @@ fn go(rt: &HostRuntime) -> Result<(), Stop> {
     }
 }
 
-fn main(rt: HostRuntime) -> Result<(), Failed> {
+// A command that is stopped has said why, on standard error or as a refusal.
+fn main(rt: HostRuntime) -> ExitCode {
     match go(&rt) {
-        Ok(()) => Ok(()),
-        Err(Stop::Told) => Err(Failed),
+        Ok(()) => return ExitCode::SUCCESS,
+        Err(Stop::Told) => {}
         Err(Stop::Io(e)) => {
             let _ = tell(&rt, e);
-            Err(Failed)
         }
         Err(Stop::Memory) => {
             let _ = tell(&rt, "not enough memory");
-            Err(Failed)
         }
     }
+    ExitCode::FAILURE
 }

@@ -297,7 +297,7 @@ impl Comparison<'_> {
             Ok(boards) => boards,
             Err(why) => return Err(refused(self.rt, why)),
         };
-        let mut out = BufWriter::new(self.rt.stdout());
+        let mut out = BufWriter::new(self.rt.alloc(), self.rt.stdout())?;
         self.rows(&mut out, &mut boards, items)?;
         tallies(&mut out, "hazard", &boards.hazard)?;
         tallies(&mut out, "epoch", &boards.epoch)?;

@@ -193,7 +193,7 @@ impl Job for Table<'_> {
             watch: Watch::new(heap, sessions_of(self.schedule), places),
             count: 0,
         };
-        let mut out = BufWriter::new(self.rt.stdout());
+        let mut out = BufWriter::new(self.rt.alloc(), self.rt.stdout())?;
         writeln!(
             out,
             "   #  who  word              answer      what happened"
