@@ -108,7 +108,7 @@ impl Reclaimer for HazardPointers {
     }
 
     fn is_inside(&self, session: u8) -> bool {
-        if session >= self.sessions {
+        if session >= 8 {
             return false;
         }
         self.rows[session as usize].inside

@@ -148,7 +148,7 @@ impl Reclaimer for QuiescentStates {
     }
 
     fn is_inside(&self, session: u8) -> bool {
-        if session >= self.sessions {
+        if session >= 8 {
             return false;
         }
         self.inside[session as usize]
