@@ -6,7 +6,7 @@ mod ends;
 pub mod moment;
 pub mod names;
 mod search;
-mod stack;
+mod stack_steps;
 pub mod told;
 
 pub use moment::Moment;

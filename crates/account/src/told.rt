@@ -1,7 +1,7 @@
 // A word in plain words.
 use crate::moment::Moment;
 use crate::names::item;
-use crate::{ends, search, stack};
+use crate::{ends, search, stack_steps};
 use machine::{AnswerKind, Goal, Kind, Op, Search, Stage, Word};
 use std::fmt;
 
@@ -111,7 +111,7 @@ fn step<W: fmt::Write>(m: &Moment, labels: &[String], f: &mut fmt::Formatter<W>)
             cur: _,
             next: _,
         } => ends::step(m, labels, f),
-        _ => stack::step(m, labels, f),
+        _ => stack_steps::step(m, labels, f),
     }
 }
 
