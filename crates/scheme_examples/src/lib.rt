@@ -56,7 +56,7 @@ mod tests {
         assert_eq!(rt; empty.compare(&a), Ordering::Less);
         assert_eq!(rt; ab.compare(&abc), Ordering::Less);
         assert_eq!(rt; low.compare(&high), Ordering::Less);
-        assert_eq!(rt; abc.as_bytes(), b"ABC");
+        assert_eq!(rt; abc.as_bytes(), b"ABC".as_slice());
         match ByteString::new(b"twelve bytes") {
             Ok(_) => {
                 assert!(rt; false);
