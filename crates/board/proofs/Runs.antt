@@ -1,12 +1,12 @@
 -- A run: refused, or its words done; and how it carries a history on.
-use Rattle.std.proofs.Common.{◌≡◌, ℕ, ◌<◌, ◌≤◌, Bool, true, false, cond, eqb, ltb, ◌⊎◌, List, length, Ordering, Less, Equal, Greater, sym, refl, ap, ◌∙◌, subst, inl, inr}
+use Rattle.std.proofs.Common.{◌≡◌, ℕ, ◌<◌, ◌≤◌, Bool, true, false, cond, eqb, ltb, ◌⊎◌, List, length, Ordering, Less, Equal, sym, ap, ◌∙◌, subst, inl, inr}
 use Rattle.std.proofs.lemmas.Bool.{cases_eq, eq-eqb, ne_eqb, lt-ltb, le-ltb}
 use Rattle.std.specs.Ordering.{ordering_reverse}
 use Rattle.reclaim.specs.Model.{Model, Lawful}
 use Rattle.machine.specs.declared.answer.Answer.{Answer}
 use Rattle.machine.specs.declared.answer.Reason.TheVariants as reason
 use Rattle.machine.specs.Serial.{compared}
-use Rattle.machine.specs.Machine.{Machine, ran}
+use Rattle.machine.specs.Machine.{Machine}
 use Rattle.machine.specs.Laws.{Carries}
 use Rattle.machine.proofs.Whole.{carries, idles}
 use Rattle.board.specs.Runs.{Run, refuses, does, running}

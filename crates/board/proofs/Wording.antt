@@ -1,5 +1,5 @@
 -- One word, and how it carries a history on.
-use Rattle.std.proofs.Common.{◌≡◌, ℕ, ◌<◌, ◌≤◌, Bool, true, false, cond, eqb, ◌⊎◌, List, length, Ok, Err, Result, Ordering, Less, Equal, Greater, sym, refl, ap, ◌∙◌, subst, inl, inr, arith}
+use Rattle.std.proofs.Common.{◌≡◌, ℕ, ◌<◌, cond, ◌⊎◌, List, length, Ok, Result, Ordering, Less, Equal, sym, ap, ◌∙◌, subst, inl, inr}
 use Rattle.std.proofs.lemmas.Bool.{cases_eq, eq-eqb, ne_eqb}
 use Rattle.std.specs.Ordering.{ordering_reverse}
 use Rattle.reclaim.specs.Model.{Model, Lawful}
@@ -7,10 +7,10 @@ use Rattle.machine.specs.declared.answer.Reason.{Reason}
 use Rattle.machine.specs.declared.answer.Reason.TheVariants as reason
 use Rattle.machine.specs.declared.word.Kind.{Kind}
 use Rattle.machine.specs.declared.word.Word.{Word}
-use Rattle.machine.specs.declared.word.Word.TheVariants.{Tidy, Of}
+use Rattle.machine.specs.declared.word.Word.TheVariants.{Of}
 use Rattle.machine.specs.Words.{parsed}
 use Rattle.machine.specs.Serial.{compared}
-use Rattle.machine.specs.Machine.{Machine, Did, answering, refusing, worded, ran}
+use Rattle.machine.specs.Machine.{Machine, Did, answering, refusing, worded}
 use Rattle.machine.specs.Laws.{Carries}
 use Rattle.machine.proofs.Ranges.{InRange, parsed_range}
 use Rattle.machine.proofs.Whole.{one_word, idles}

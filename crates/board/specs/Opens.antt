@@ -1,12 +1,12 @@
 -- Opening a board, and opening one to run words.
-use Rattle.std.specs.Prelude.{◌≡◌, ℕ, zero, suc, Bool, true, false, cond, ◌||◌, ltb, List, length, Ok, Err, Result, ◌==◌, nat_lt}
+use Rattle.std.specs.Prelude.{◌≡◌, ℕ, zero, suc, Bool, false, cond, ◌||◌, ltb, List, length, Ok, Err, Result, ◌==◌, nat_lt}
 use Rattle.std.specs.declared.cmp.Ordering.{Ordering}
 use Rattle.reclaim.specs.Model.{Model}
 use Rattle.machine.specs.declared.answer.Answer.{Answer}
 use Rattle.machine.specs.declared.answer.Reason.{Reason}
 use Rattle.machine.specs.declared.answer.Reason.TheVariants as reason
 use Rattle.machine.specs.Laws.{Promise, Openable, Came}
-use Rattle.machine.specs.Machine.{Machine, opened}
+use Rattle.machine.specs.Machine.{opened}
 use Rattle.machine.specs.Serial.{with_none, value_at, compared}
 use Rattle.board.specs.declared.board.Board.{Board}
 use Rattle.board.specs.declared.open.Unopened.{Unopened}

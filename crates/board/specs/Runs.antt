@@ -1,5 +1,5 @@
 -- A list of words with a list for the answers: refused for other items, then for too few answers; else done, the rest of the answers as it was.
-use Rattle.std.specs.Prelude.{◌≡◌, ℕ, cond, List, [], ◌∷◌, ◌++◌, length, drop, Ok, Err, Result, ◌==◌, nat_lt}
+use Rattle.std.specs.Prelude.{◌≡◌, ℕ, cond, List, [], ◌++◌, length, drop, Ok, Err, Result, ◌==◌, nat_lt}
 use Rattle.std.specs.declared.cmp.Ordering.{Ordering}
 use Rattle.reclaim.specs.Model.{Model}
 use Rattle.machine.specs.declared.answer.Answer.{Answer}

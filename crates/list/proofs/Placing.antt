@@ -1,5 +1,5 @@
 -- The item at a place.
-use Rattle.std.proofs.Common.{◌≡◌, ℕ, zero, suc, ◌<◌, ◌≤◌, List, [], ◌∷◌, length, get_or, Some, None, Option, refl, arith}
+use Rattle.std.proofs.Common.{◌≡◌, ℕ, zero, suc, ◌<◌, ◌≤◌, List, [], ◌∷◌, length, get_or, Some, None, refl, arith}
 use Rattle.machine.specs.Serial.{value_at}
 
 pub at_place : {I V : Type 0} (f : I → V) (xs : List I) (i : ℕ) (d : I) → i < length xs → value_at f xs i ≡ Some (f (get_or xs i d))

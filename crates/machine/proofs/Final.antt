@@ -1,42 +1,38 @@
 -- The opening, the room for a push, and the theorem.
-use Rattle.std.proofs.Common.{◌≡◌, ℕ, zero, suc, ◌+◌, ◌-◌, ◌<◌, ◌≤◌, Bool, true, false, cond, ltb, ◌⊎◌, List, [], ◌∷◌, ◌++◌, map, reverse, length, Some, None, Ok, Option, Ordering, Less, Equal, Greater, sym, refl, ap, ◌∙◌, subst, inl, inr, append_assoc, append-nil, arith}
+use Rattle.std.proofs.Common.{◌≡◌, ℕ, zero, suc, ◌+◌, ◌-◌, ◌<◌, ◌≤◌, Bool, true, false, cond, ltb, ◌⊎◌, List, [], ◌∷◌, ◌++◌, reverse, length, Some, None, Ok, Option, sym, refl, ap, ◌∙◌, subst, inl, inr, append_assoc, append-nil, arith}
 use lib.ListN.{length-map}
-use Rattle.std.proofs.lemmas.Bool.{eq-eqb, cases_eq, cases_lt, true≢false, ltb-true, lt-ltb, le-ltb, cond-true, cond-false}
-use Rattle.reclaim.specs.Model.{Model, after_enter, after_leave, after_protect, after_retire}
-use Rattle.machine.proofs.Rules.{Meaning, Rules, Withheld, Collected, Given}
-use Rattle.machine.specs.Machine.{put, Memory, counting, op_of, beginning, fetched, refetched}
-use Rattle.machine.proofs.Rules.{History, settled}
-use Rattle.machine.proofs.Trace.{Status, outside, under, decided, status, Orderly, deeds, played, Truthful}
+use Rattle.std.proofs.lemmas.Bool.{eq-eqb, cases_eq, cases_lt, true≢false, lt-ltb, le-ltb, cond-true, cond-false}
+use Rattle.reclaim.specs.Model.{Model}
+use Rattle.machine.proofs.Rules.{Rules, Withheld, Collected}
+use Rattle.machine.specs.Machine.{counting, op_of, beginning, fetched, refetched}
+use Rattle.machine.proofs.Rules.{History}
+use Rattle.machine.proofs.Trace.{outside, under, status, Orderly, deeds, played, Truthful}
 use Rattle.machine.specs.Serial.{members}
 use Rattle.machine.specs.Laws.{Promise}
 use Rattle.machine.specs.Words.{parsed}
-use Rattle.machine.specs.Machine.{Adding, pushing, inserting, Event, Trace, Machine, opening, answering, refusing, moving, worded, ran, opened}
+use Rattle.machine.specs.Machine.{Adding, pushing, inserting, Event, Machine, opening, answering, refusing, worded, ran, opened}
 use Rattle.machine.specs.declared.word.Kind.TheVariants.{Begin}
 use Rattle.machine.specs.declared.word.Word.TheVariants.{Of}
 use Rattle.machine.proofs.Sizes.{worded_sizes, ran_items}
 use Rattle.machine.proofs.Histories.{safely, once, serially, left_with, all_outside}
 use Rattle.machine.proofs.Rules.{Order, cmp_of}
-use Rattle.machine.proofs.Scene.{Place, nowhere, free_at, held_now, link_at, fresh_of, on_list, kind, Stacked, In, Chain, Seg, is_link, total, live, Sorted, Scene, means, Hunt, goal_status, key, Sound, Staged, Owns, Chases, Stands, Inv, scene_of}
-use Rattle.machine.proofs.Frames.{total_full, full_each, total_frame}
+use Rattle.machine.proofs.Scene.{Place, nowhere, free_at, held_now, link_at, fresh_of, on_list, kind, Stacked, In, Chain, Seg, is_link, total, live, Sorted, Scene, means, goal_status, key, Staged, Chases, Stands, Inv, scene_of}
+use Rattle.machine.proofs.Frames.{total_full, full_each}
 use Rattle.machine.proofs.Moves
 use Rattle.machine.proofs.More
 use Rattle.machine.proofs.Lists
 use Rattle.machine.proofs.Words
 use Rattle.machine.proofs.Rules.{Order, cmp_of}
-use Rattle.machine.specs.declared.cell.Prev.{Prev}
-use Rattle.machine.specs.declared.cell.Prev.TheVariants.{Front, At}
 use Rattle.machine.specs.declared.stage.Goal.{Goal}
 use Rattle.machine.specs.declared.stage.Goal.TheVariants.{Look, Add, Take, Finish}
-use Rattle.machine.specs.declared.stage.Search.{Search}
 use Rattle.machine.specs.declared.stage.Search.TheVariants.{ReadFront, ProtectFirst, CheckFront, ReadCell, ProtectNext, CheckPrev, ConfirmCell, ShiftPrev, ShiftCur, Unlink}
 use Rattle.machine.specs.declared.stage.Stage.{Stage}
 use Rattle.machine.specs.declared.stage.Stage.TheVariants.{Outside, PushReadHead, PushSwapHead, PopReadHead, PopProtectTop, PopCheckHead, PopReadTop, PopSwapHead, Find, LinkFresh, MarkCell, RemoveCell}
 use Rattle.machine.specs.declared.word.Op.{Op}
-use Rattle.machine.specs.declared.word.Op.TheVariants.{Insert, Delete, Contains, Push, Pop}
+use Rattle.machine.specs.declared.word.Op.TheVariants.{Push, Pop}
 use Rattle.machine.specs.declared.answer.Answer.{Answer}
-use Rattle.machine.specs.declared.answer.Reason.{Reason}
 use Rattle.machine.specs.declared.answer.Reason.TheVariants as reason
-use Rattle.machine.specs.Answers.{under_way, yes, no, refused, tidied}
+use Rattle.machine.specs.Answers.{under_way, refused}
 
 -- where the cells of a new board are
 start : ℕ → ℕ → Place

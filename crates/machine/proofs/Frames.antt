@@ -1,23 +1,11 @@
 -- a map as a function
-use Rattle.std.proofs.Common.{◌≡◌, ℕ, zero, suc, ◌+◌, ◌<◌, ◌≤◌, Bool, true, false, cond, eqb, ◌⊎◌, List, [], ◌∷◌, ◌++◌, map, length, Some, None, Option, Ordering, Less, Equal, Greater, sym, refl, ap, ◌∙◌, subst, inl, inr, arith}
-use Rattle.std.proofs.lemmas.Bool.{eqb-true, eqb-false, eq-eqb, ne_eqb, cond-true, cond-false, cases_eq}
-use Rattle.machine.specs.Machine.{put, same, Event, begins, touches, clears, gives, decides, completes, Trace}
-use Rattle.machine.proofs.Trace.{Status, outside, under, decided, settle, status, Cleared}
+use Rattle.std.proofs.Common.{◌≡◌, ℕ, zero, suc, ◌+◌, ◌<◌, ◌≤◌, true, eqb, ◌⊎◌, List, [], ◌∷◌, map, length, Some, None, Option, sym, refl, ap, ◌∙◌, inl, inr, arith}
+use Rattle.std.proofs.lemmas.Bool.{eqb-true, eq-eqb, ne_eqb, cond-true, cond-false, cases_eq}
+use Rattle.machine.specs.Machine.{put, same, begins, decides, completes, Trace}
+use Rattle.machine.proofs.Trace.{outside, under, decided, settle, status}
 use Rattle.machine.proofs.Scene.{Place, nowhere, free_at, held_now, link_at, fresh_of, on_list, kind, Stacked, Chain, is_link, total}
-use Rattle.machine.specs.declared.cell.Prev.{Prev}
-use Rattle.machine.specs.declared.cell.Prev.TheVariants.{Front, At}
-use Rattle.machine.specs.declared.stage.Goal.{Goal}
-use Rattle.machine.specs.declared.stage.Goal.TheVariants.{Look, Add, Take, Finish}
-use Rattle.machine.specs.declared.stage.Search.{Search}
-use Rattle.machine.specs.declared.stage.Search.TheVariants.{ReadFront, ProtectFirst, CheckFront, ReadCell, ProtectNext, CheckPrev, ConfirmCell, ShiftPrev, ShiftCur, Unlink}
-use Rattle.machine.specs.declared.stage.Stage.{Stage}
-use Rattle.machine.specs.declared.stage.Stage.TheVariants.{Outside, PushReadHead, PushSwapHead, PopReadHead, PopProtectTop, PopCheckHead, PopReadTop, PopSwapHead, Find, LinkFresh, MarkCell, RemoveCell}
 use Rattle.machine.specs.declared.word.Op.{Op}
-use Rattle.machine.specs.declared.word.Op.TheVariants.{Insert, Delete, Contains, Push, Pop}
 use Rattle.machine.specs.declared.answer.Answer.{Answer}
-use Rattle.machine.specs.declared.answer.Reason.{Reason}
-use Rattle.machine.specs.declared.answer.Reason.TheVariants as reason
-use Rattle.machine.specs.Answers.{under_way, yes, no, refused, tidied}
 
 pub put_here : {X : Type 0} (f : ℕ → X) (k : ℕ) (v : X) → put f k v k ≡ v
 unfolding put

@@ -1,5 +1,5 @@
 -- The free stack has room for a cell that is not on it.
-use Rattle.std.proofs.Common.{◌≡◌, ℕ, suc, ◌<◌, ◌≤◌, Bool, true, false, cond, not, ◌&&◌, ◌||◌, eqb, ltb, ◌⊎◌, List, [], ◌∷◌, length, sym, refl, ap, ◌∙◌, inl, inr, arith}
+use Rattle.std.proofs.Common.{◌≡◌, ℕ, ◌<◌, ◌≤◌, true, false, not, eqb, ltb, ◌⊎◌, List, [], ◌∷◌, length, sym, refl, ap, ◌∙◌, inl, inr, arith}
 use Rattle.std.proofs.lemmas.Bool.{cases_lt, or_from, and_from, not_from_false, ne_eqb, lt-ltb, cond-true}
 use Rattle.reclaim.specs.Cells.{itself, has, distinct, all_below}
 use Rattle.reclaim.specs.CellLemmas.{room}

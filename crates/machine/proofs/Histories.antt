@@ -1,5 +1,5 @@
 -- From the laws as the proof keeps them, the newest event first, to the promise as it is stated, oldest first.
-use Rattle.std.proofs.Common.{◌≡◌, ℕ, true, false, cond, ◌⊎◌, List, [], ◌∷◌, ◌++◌, map, reverse, Some, None, Option, Ordering, sym, refl, ap, ◌∙◌, subst, inl, inr, append_assoc, append-nil, arith}
+use Rattle.std.proofs.Common.{◌≡◌, ℕ, ◌⊎◌, List, [], ◌∷◌, ◌++◌, map, reverse, Some, None, Option, Ordering, sym, refl, ap, ◌∙◌, subst, inl, inr, append_assoc, append-nil, arith}
 use mathlib.Core.List.{reverse-cons, reverse-append, reverse-reverse, map-append}
 use Rattle.std.proofs.lemmas.Bool.{cases_eq}
 use Rattle.machine.specs.declared.word.Op.{Op}

@@ -1,11 +1,11 @@
 -- From the laws of the reclaimer's trait and of the order's trait to what the proof uses.
-use Rattle.std.proofs.Common.{◌≡◌, ℕ, ◌<◌, ◌≤◌, Bool, true, false, cond, not, ◌&&◌, ◌||◌, eqb, ltb, ◌⊎◌, Some, None, Option, Ordering, Less, Equal, Greater, sym, refl, ap, ◌∙◌, subst, inl, inr, arith}
-use Rattle.std.proofs.lemmas.Bool.{true≢false, cases_Bool, both_ways, lt-ltb, ltb-true, eq-eqb, ne_eqb, eqb-true, or_left, or_right, or_cases, and_from, and_parts, not_from_false, not-true, not-false, cond-true, cond-false}
+use Rattle.std.proofs.Common.{◌≡◌, ℕ, ◌<◌, ◌≤◌, Bool, true, false, cond, not, ◌&&◌, ◌||◌, eqb, ltb, ◌⊎◌, Some, None, Option, Ordering, Less, Equal, sym, refl, ap, ◌∙◌, subst, inl, inr, arith}
+use Rattle.std.proofs.lemmas.Bool.{true≢false, lt-ltb, ltb-true, eq-eqb, ne_eqb, or_left, or_right, and_from, and_parts, not_from_false, cond-true, cond-false}
 use Rattle.std.specs.Ordering.{ordering_reverse}
 use Rattle.reclaim.specs.Model.{Model, Lawful, SameSizes, after_enter, after_leave, after_protect, after_retire}
 use Rattle.reclaim.specs.Model as model
 use Rattle.machine.specs.Serial.{with_none}
-use Rattle.machine.proofs.Rules.{Meaning, SameInside, SameHeld, KeepsOn, Entered, Left, Protected, Retired, Given, Withheld, Collected, Rules, Order}
+use Rattle.machine.proofs.Rules.{Meaning, SameInside, SameHeld, KeepsOn, Entered, Left, Protected, Retired, Collected, Rules, Order}
 
 pub other : (a b : Bool) → a ≡ false → (a || b) ≡ true → b ≡ true
 other true b e h = absurd (true≢false e)

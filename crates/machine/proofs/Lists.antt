@@ -1,24 +1,10 @@
 -- Lists of cells: segments, order, and the set that the live cells make.
-use Rattle.std.proofs.Common.{◌≡◌, ℕ, zero, suc, ◌+◌, ◌<◌, ◌≤◌, Bool, true, false, cond, ◌⊎◌, List, [], ◌∷◌, ◌++◌, length, Some, None, Option, Ordering, Less, Equal, Greater, sym, refl, ap, ◌∙◌, subst, inl, inr, arith}
-use Rattle.machine.proofs.Rules.{Order, cmp_of, turn}
+use Rattle.std.proofs.Common.{◌≡◌, ℕ, suc, Bool, true, false, cond, ◌⊎◌, List, [], ◌∷◌, ◌++◌, length, Some, None, Option, Ordering, Less, Equal, Greater, sym, refl, ap, ◌∙◌, subst, inl, inr, arith}
+use Rattle.machine.proofs.Rules.{Order, turn}
 use Rattle.machine.specs.Serial.{by3, member, added, removed}
 use Rattle.machine.specs.Machine.{put}
 use Rattle.machine.proofs.Scene.{Place, on_list, In, Seg, live, Below, Above, Sorted}
 use Rattle.machine.proofs.Frames.{put_here, put_apart}
-use Rattle.machine.specs.declared.cell.Prev.{Prev}
-use Rattle.machine.specs.declared.cell.Prev.TheVariants.{Front, At}
-use Rattle.machine.specs.declared.stage.Goal.{Goal}
-use Rattle.machine.specs.declared.stage.Goal.TheVariants.{Look, Add, Take, Finish}
-use Rattle.machine.specs.declared.stage.Search.{Search}
-use Rattle.machine.specs.declared.stage.Search.TheVariants.{ReadFront, ProtectFirst, CheckFront, ReadCell, ProtectNext, CheckPrev, ConfirmCell, ShiftPrev, ShiftCur, Unlink}
-use Rattle.machine.specs.declared.stage.Stage.{Stage}
-use Rattle.machine.specs.declared.stage.Stage.TheVariants.{Outside, PushReadHead, PushSwapHead, PopReadHead, PopProtectTop, PopCheckHead, PopReadTop, PopSwapHead, Find, LinkFresh, MarkCell, RemoveCell}
-use Rattle.machine.specs.declared.word.Op.{Op}
-use Rattle.machine.specs.declared.word.Op.TheVariants.{Insert, Delete, Contains, Push, Pop}
-use Rattle.machine.specs.declared.answer.Answer.{Answer}
-use Rattle.machine.specs.declared.answer.Reason.{Reason}
-use Rattle.machine.specs.declared.answer.Reason.TheVariants as reason
-use Rattle.machine.specs.Answers.{under_way, yes, no, refused, tidied}
 
 pub in_append : (x : ℕ) (a b : List ℕ) → In x (a ++ b) → In x a ⊎ In x b
 in_append x [] b h = inr h

@@ -1,31 +1,18 @@
 -- More moves: of fresh cells, of the stack, and of collect.
-use Rattle.std.proofs.Common.{◌≡◌, ℕ, zero, suc, ◌+◌, ◌<◌, ◌≤◌, Bool, true, false, ◌⊎◌, List, [], ◌∷◌, ◌++◌, map, length, Some, None, Option, Ordering, Less, Equal, Greater, sym, refl, ap, ◌∙◌, subst, inl, inr, arith}
-use Rattle.std.proofs.lemmas.Bool.{cases_eq, cases_lt}
-use Rattle.reclaim.specs.Model.{Model, after_enter, after_leave, after_protect, after_retire}
-use Rattle.machine.proofs.Rules.{Meaning, Rules, SameHeld, KeepsOn, Entered, Left, Protected, Retired, Given, Withheld, Collected}
-use Rattle.machine.proofs.Rules.{Order, cmp_of}
-use Rattle.machine.specs.Serial.{member, added, removed}
-use Rattle.machine.specs.Machine.{put, Event, begins, touches, clears, gives, decides, completes, Trace, Memory, with_reclaimer, written, headed, retired, marked, taken}
-use Rattle.machine.proofs.Trace.{Status, outside, under, decided, status, Cleared, Orderly, deed, deeds, played, Truthful}
-use Rattle.machine.specs.Serial.{Serial, pushed, popped, inserted, deleted, serve}
-use Rattle.machine.proofs.Scene.{Place, nowhere, free_at, held_now, link_at, fresh_of, on_list, kind, Stacked, In, Chain, Seg, is_link, total, live, Below, Above, Sorted, Scene, OnStack, OnList, Dead, means, There, Safe, Calm, Busy, Cur, key, Sound, Clean}
-use Rattle.machine.proofs.Frames.{put_here, put_apart, apart, status_begins, status_begun, status_decides, status_decided, status_completes, status_completed, stacked_frame, chain_frame, map_frame, total_frame, total_put}
+use Rattle.std.proofs.Common.{◌≡◌, ℕ, suc, ◌<◌, false, ◌⊎◌, List, [], ◌∷◌, map, length, Some, None, Option, sym, refl, ap, ◌∙◌, subst, inl, inr, arith}
+use Rattle.std.proofs.lemmas.Bool.{cases_eq}
+use Rattle.reclaim.specs.Model.{Model}
+use Rattle.machine.proofs.Rules.{Rules, Retired, Given, Withheld, Collected}
+use Rattle.machine.proofs.Rules.{Order}
+use Rattle.machine.specs.Machine.{put, gives, decides, Memory, written, headed, retired}
+use Rattle.machine.proofs.Trace.{under, status, Cleared, Orderly, deeds, played, Truthful}
+use Rattle.machine.specs.Serial.{pushed, popped}
+use Rattle.machine.proofs.Scene.{Place, free_at, held_now, link_at, fresh_of, kind, Stacked, In, Chain, Seg, is_link, Scene, OnList, means, There, Safe, Calm, key, Sound}
+use Rattle.machine.proofs.Frames.{put_here, put_apart, apart, status_decides, stacked_frame, chain_frame, total_put}
 use Rattle.machine.proofs.Lists
-use Rattle.machine.proofs.Moves.{quiet, put_kind, put_kind_back, bound_put, within_put, deeds_decides, Turn, turn_calm, safe_kind, calm_quiet, sound_quiet, in_line, off_line, in_bounds}
-use Rattle.machine.specs.declared.cell.Prev.{Prev}
-use Rattle.machine.specs.declared.cell.Prev.TheVariants.{Front, At}
-use Rattle.machine.specs.declared.stage.Goal.{Goal}
-use Rattle.machine.specs.declared.stage.Goal.TheVariants.{Look, Add, Take, Finish}
-use Rattle.machine.specs.declared.stage.Search.{Search}
-use Rattle.machine.specs.declared.stage.Search.TheVariants.{ReadFront, ProtectFirst, CheckFront, ReadCell, ProtectNext, CheckPrev, ConfirmCell, ShiftPrev, ShiftCur, Unlink}
-use Rattle.machine.specs.declared.stage.Stage.{Stage}
-use Rattle.machine.specs.declared.stage.Stage.TheVariants.{Outside, PushReadHead, PushSwapHead, PopReadHead, PopProtectTop, PopCheckHead, PopReadTop, PopSwapHead, Find, LinkFresh, MarkCell, RemoveCell}
-use Rattle.machine.specs.declared.word.Op.{Op}
-use Rattle.machine.specs.declared.word.Op.TheVariants.{Insert, Delete, Contains, Push, Pop}
-use Rattle.machine.specs.declared.answer.Answer.{Answer}
-use Rattle.machine.specs.declared.answer.Reason.{Reason}
-use Rattle.machine.specs.declared.answer.Reason.TheVariants as reason
-use Rattle.machine.specs.Answers.{under_way, yes, no, refused, tidied}
+use Rattle.machine.proofs.Moves.{quiet, put_kind, put_kind_back, bound_put, within_put, deeds_decides, turn_calm, safe_kind, calm_quiet, sound_quiet, off_line, in_bounds}
+use Rattle.machine.specs.declared.word.Op.TheVariants.{Push, Pop}
+use Rattle.machine.specs.Answers.{yes}
 
 module _ {State : Type 0} {M : Model State} {sessions cells : ℕ} (L : Rules M sessions cells) {V : Type 0} (O : Order V) (val : ℕ → V) where
   -- s writes the link of its fresh cell

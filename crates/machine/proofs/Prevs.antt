@@ -1,12 +1,12 @@
 -- What a session knows of its own cells: the list cut behind prev, and its slots over its own moves.
-use Rattle.std.proofs.Common.{◌≡◌, ℕ, zero, suc, ◌+◌, ◌<◌, ◌≤◌, Bool, true, false, ◌⊎◌, List, [], ◌∷◌, ◌++◌, map, Some, None, Option, Ordering, Less, Equal, Greater, sym, refl, ap, ◌∙◌, subst, inl, inr, arith}
+use Rattle.std.proofs.Common.{◌≡◌, ℕ, ◌<◌, Bool, true, false, ◌⊎◌, ◌++◌, Some, None, Option, sym, refl, ap, ◌∙◌, subst, inl, inr, arith}
 use Rattle.std.proofs.lemmas.Bool.{cases_eq, true≢false}
-use Rattle.reclaim.specs.Model.{Model, after_enter, after_leave, after_protect, after_retire}
+use Rattle.reclaim.specs.Model.{Model}
 use Rattle.machine.proofs.Rules.{Rules}
-use Rattle.machine.proofs.Rules.{Order, cmp_of}
-use Rattle.machine.specs.Machine.{put, same, is, points, link_of, mark_of, front_after, link_after, touch_prev, Event, touches, Trace, Memory}
-use Rattle.machine.proofs.Trace.{under, status, Cleared, Orderly, deeds}
-use Rattle.machine.proofs.Scene.{Place, held_now, link_at, fresh_of, on_list, kind, In, Seg, Below, Above, Sorted, Scene, OnList, Dead, means, There, Safe, Calm, Cur, key, Sound, Clean, Beyond, calm_refl}
+use Rattle.machine.proofs.Rules.{Order}
+use Rattle.machine.specs.Machine.{put, is, points, link_of, mark_of, front_after, link_after, touch_prev}
+use Rattle.machine.proofs.Trace.{under, status, Cleared}
+use Rattle.machine.proofs.Scene.{fresh_of, on_list, kind, In, Below, Above, Sorted, Scene, OnList, means, Calm, Cur, key, Sound, Clean, Beyond, calm_refl}
 use Rattle.machine.proofs.Frames.{put_here, put_apart, same_eq}
 use Rattle.machine.proofs.Lists
 use Rattle.machine.proofs.Moves
@@ -14,18 +14,7 @@ use Rattle.machine.proofs.More
 use Rattle.machine.proofs.Line
 use Rattle.machine.specs.declared.cell.Prev.{Prev}
 use Rattle.machine.specs.declared.cell.Prev.TheVariants.{Front, At}
-use Rattle.machine.specs.declared.stage.Goal.{Goal}
-use Rattle.machine.specs.declared.stage.Goal.TheVariants.{Look, Add, Take, Finish}
-use Rattle.machine.specs.declared.stage.Search.{Search}
-use Rattle.machine.specs.declared.stage.Search.TheVariants.{ReadFront, ProtectFirst, CheckFront, ReadCell, ProtectNext, CheckPrev, ConfirmCell, ShiftPrev, ShiftCur, Unlink}
-use Rattle.machine.specs.declared.stage.Stage.{Stage}
-use Rattle.machine.specs.declared.stage.Stage.TheVariants.{Outside, PushReadHead, PushSwapHead, PopReadHead, PopProtectTop, PopCheckHead, PopReadTop, PopSwapHead, Find, LinkFresh, MarkCell, RemoveCell}
-use Rattle.machine.specs.declared.word.Op.{Op}
-use Rattle.machine.specs.declared.word.Op.TheVariants.{Insert, Delete, Contains, Push, Pop}
-use Rattle.machine.specs.declared.answer.Answer.{Answer}
-use Rattle.machine.specs.declared.answer.Reason.{Reason}
-use Rattle.machine.specs.declared.answer.Reason.TheVariants as reason
-use Rattle.machine.specs.Answers.{under_way, yes, no, refused, tidied}
+use Rattle.machine.specs.declared.word.Op.TheVariants.{Delete}
 
 pub is_true : (m : Bool) (l c : Option ℕ) → is m l c ≡ true → (m ≡ false) × (l ≡ c)
 is_true true l c e = absurd (true≢false (sym e))

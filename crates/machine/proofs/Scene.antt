@@ -1,25 +1,21 @@
 -- The ghost parts of a board: where each cell is, the two chains, and what each stage may rely on.
-use Rattle.std.proofs.Common.{◌≡◌, ℕ, zero, suc, ◌+◌, ◌<◌, ◌≤◌, Bool, true, false, cond, ◌⊎◌, List, [], ◌∷◌, map, length, Some, None, Option, Ordering, Less, Equal, Greater, sym, refl, ap, ◌∙◌, subst, inl, inr}
-use Rattle.reclaim.specs.Model.{Model, after_enter, after_leave, after_protect, after_retire}
+use Rattle.std.proofs.Common.{◌≡◌, ℕ, zero, suc, ◌+◌, ◌<◌, ◌≤◌, Bool, true, cond, ◌⊎◌, List, [], ◌∷◌, map, length, Some, None, Option, Less, Greater, refl, ◌∙◌}
+use Rattle.reclaim.specs.Model.{Model}
 use Rattle.machine.proofs.Rules.{Meaning, Rules}
-use Rattle.machine.proofs.Rules.{Order, cmp_of}
+use Rattle.machine.proofs.Rules.{Order}
 use Rattle.machine.specs.Machine.{Memory, Trace, sought}
-use Rattle.machine.proofs.Rules.{History, settled}
+use Rattle.machine.proofs.Rules.{History}
 use Rattle.machine.proofs.Trace.{Status, outside, under, decided, status, Cleared, Orderly, deeds, played, Truthful}
 use Rattle.machine.specs.declared.cell.Prev.{Prev}
 use Rattle.machine.specs.declared.cell.Prev.TheVariants.{Front, At}
 use Rattle.machine.specs.declared.stage.Goal.{Goal}
 use Rattle.machine.specs.declared.stage.Goal.TheVariants.{Look, Add, Take, Finish}
-use Rattle.machine.specs.declared.stage.Search.{Search}
 use Rattle.machine.specs.declared.stage.Search.TheVariants.{ReadFront, ProtectFirst, CheckFront, ReadCell, ProtectNext, CheckPrev, ConfirmCell, ShiftPrev, ShiftCur, Unlink}
 use Rattle.machine.specs.declared.stage.Stage.{Stage}
 use Rattle.machine.specs.declared.stage.Stage.TheVariants.{Outside, PushReadHead, PushSwapHead, PopReadHead, PopProtectTop, PopCheckHead, PopReadTop, PopSwapHead, Find, LinkFresh, MarkCell, RemoveCell}
 use Rattle.machine.specs.declared.word.Op.{Op}
 use Rattle.machine.specs.declared.word.Op.TheVariants.{Insert, Delete, Contains, Push, Pop}
-use Rattle.machine.specs.declared.answer.Answer.{Answer}
-use Rattle.machine.specs.declared.answer.Reason.{Reason}
-use Rattle.machine.specs.declared.answer.Reason.TheVariants as reason
-use Rattle.machine.specs.Answers.{under_way, yes, no, refused, tidied}
+use Rattle.machine.specs.Answers.{yes}
 
 pub data Place : Type 0 where
   nowhere : Place

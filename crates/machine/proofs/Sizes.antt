@@ -7,7 +7,7 @@ use Rattle.machine.specs.declared.word.Kind.TheVariants.{Step, Begin}
 use Rattle.machine.specs.declared.word.Word.{Word}
 use Rattle.machine.specs.declared.word.Word.TheVariants.{Tidy, Of}
 use Rattle.machine.specs.Words.{parsed}
-use Rattle.machine.specs.Machine.{Machine, moving, answering, refusing, worded, ran}
+use Rattle.machine.specs.Machine.{Machine, answering, refusing, worded, ran}
 
 module _ {State : Type 0} (M : Model State) (cmp : ℕ → ℕ → Ordering) (n : ℕ) where
   same_sizes : (m : Machine State) (t : Bool) (r : Result Word Reason)

@@ -1,15 +1,15 @@
 -- Each step of a session keeps the invariant.
-use Rattle.std.proofs.Common.{◌≡◌, ℕ, zero, suc, ◌+◌, ◌<◌, ◌≤◌, Bool, true, false, ◌⊎◌, List, [], ◌∷◌, ◌++◌, map, length, Some, None, Option, Ordering, Less, Equal, Greater, sym, refl, ap, ◌∙◌, subst, inl, inr, arith}
+use Rattle.std.proofs.Common.{◌≡◌, ℕ, ◌<◌, Bool, true, false, ◌⊎◌, List, [], ◌∷◌, ◌++◌, map, length, Some, None, Option, Ordering, Less, Equal, Greater, sym, refl, ap, ◌∙◌, subst, inl, inr, arith}
 use Rattle.std.proofs.lemmas.Bool.{cases_eq, true≢false}
-use Rattle.reclaim.specs.Model.{Model, after_enter, after_leave, after_protect, after_retire}
-use Rattle.machine.proofs.Rules.{Meaning, Rules}
+use Rattle.reclaim.specs.Model.{Model}
+use Rattle.machine.proofs.Rules.{Rules}
 use Rattle.machine.proofs.Rules.{Order, back, cmp_of}
 use Rattle.machine.specs.Serial.{member}
-use Rattle.machine.specs.Machine.{put, same, Event, begins, touches, clears, gives, decides, completes, Trace, Memory, Outcome, is, points, link_of, mark_of, touch_prev, sought, clearing, weigh, link_after, front_after, relinked, written, retired, over, on, absent, present, push_swap, pop_read, pop_check, pop_swap, read_front, check_front, read_cell, check_prev, confirm_cell, unlink_marked, link_fresh, mark_cell, remove_cell, stepping, left}
+use Rattle.machine.specs.Machine.{put, same, touches, clears, decides, completes, Trace, Memory, points, touch_prev, sought, clearing, weigh, link_after, front_after, relinked, written, retired, over, on, absent, present, push_swap, pop_read, pop_check, pop_swap, read_front, check_front, read_cell, check_prev, confirm_cell, unlink_marked, link_fresh, mark_cell, remove_cell, stepping, left}
 use Rattle.machine.proofs.Rules.{History, settled}
-use Rattle.machine.proofs.Trace.{Status, outside, under, decided, status, Cleared, deeds, played}
+use Rattle.machine.proofs.Trace.{under, decided, status, deeds, played}
 use Rattle.machine.specs.Serial.{serve, looked, deleted, inserted, popped}
-use Rattle.machine.proofs.Scene.{Place, nowhere, free_at, held_now, link_at, fresh_of, on_list, kind, In, live, Below, Scene, OnStack, OnList, Dead, means, Safe, Calm, Busy, Hunt, Cur, Named, OwnsG, Owns, key, Sound, Clean, Beyond, Staged, ChasesG, Chases, Stands, scene_of, Debts, Inv, calm_refl, calm_trans, busy_calm, hunt_calm, cur_calm, dead_calm, named_calm, clean_calm, beyond_calm, staged_calm, stands_calm}
+use Rattle.machine.proofs.Scene.{Place, free_at, held_now, link_at, fresh_of, on_list, kind, In, live, Below, Scene, Dead, means, Calm, Hunt, Cur, OwnsG, key, Sound, Clean, Beyond, ChasesG, Chases, Stands, scene_of, Debts, Inv, calm_refl, calm_trans, busy_calm, hunt_calm, cur_calm, named_calm, clean_calm, beyond_calm, stands_calm}
 use Rattle.machine.proofs.Frames.{put_here, put_apart, same_eq, status_completed, status_decided}
 use Rattle.machine.proofs.Lists
 use Rattle.machine.proofs.Moves
@@ -21,16 +21,13 @@ use Rattle.machine.specs.declared.cell.Prev.{Prev}
 use Rattle.machine.specs.declared.cell.Prev.TheVariants.{Front, At}
 use Rattle.machine.specs.declared.stage.Goal.{Goal}
 use Rattle.machine.specs.declared.stage.Goal.TheVariants.{Look, Add, Take, Finish}
-use Rattle.machine.specs.declared.stage.Search.{Search}
 use Rattle.machine.specs.declared.stage.Search.TheVariants.{ReadFront, ProtectFirst, CheckFront, ReadCell, ProtectNext, CheckPrev, ConfirmCell, ShiftPrev, ShiftCur, Unlink}
 use Rattle.machine.specs.declared.stage.Stage.{Stage}
 use Rattle.machine.specs.declared.stage.Stage.TheVariants.{Outside, PushReadHead, PushSwapHead, PopReadHead, PopProtectTop, PopCheckHead, PopReadTop, PopSwapHead, Find, LinkFresh, MarkCell, RemoveCell}
 use Rattle.machine.specs.declared.word.Op.{Op}
 use Rattle.machine.specs.declared.word.Op.TheVariants.{Insert, Delete, Contains, Push, Pop}
 use Rattle.machine.specs.declared.answer.Answer.{Answer}
-use Rattle.machine.specs.declared.answer.Reason.{Reason}
-use Rattle.machine.specs.declared.answer.Reason.TheVariants as reason
-use Rattle.machine.specs.Answers.{under_way, yes, no, refused, tidied}
+use Rattle.machine.specs.Answers.{yes, no}
 
 module _ {State : Type 0} {M : Model State} {sessions cells : ℕ} (L : Rules M sessions cells) {V : Type 0} (O : Order V) (val : ℕ → V) where
   -- a marked cell in the list was so before

@@ -1,8 +1,8 @@
 -- The laws of what is seen as the proof keeps them: recursively, the newest event first.
-use Rattle.std.proofs.Common.{◌≡◌, ℕ, Bool, true, false, cond, eqb, ◌⊎◌, List, [], ◌∷◌, ◌++◌, Ordering}
+use Rattle.std.proofs.Common.{◌≡◌, ℕ, cond, eqb, ◌⊎◌, List, [], ◌∷◌, Ordering}
 use Rattle.machine.specs.declared.word.Op.{Op}
 use Rattle.machine.specs.declared.answer.Answer.{Answer}
-use Rattle.machine.specs.Machine.{Event, begins, touches, clears, gives, decides, completes, Trace}
+use Rattle.machine.specs.Machine.{begins, touches, clears, gives, decides, completes, Trace}
 use Rattle.machine.specs.Serial.{Serial, empty, serve}
 
 -- where a session stands with its operation

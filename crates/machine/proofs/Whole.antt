@@ -1,11 +1,11 @@
 -- The theorem, from the traits' laws; and how a call carries a history on.
-use Rattle.std.proofs.Common.{◌≡◌, ℕ, ◌≤◌, true, false, ◌⊎◌, List, [], ◌∷◌, ◌++◌, length, Ordering, Less, Equal, Greater, sym, refl, ap, ◌∙◌, subst, inl, inr, append_assoc, append-nil}
+use Rattle.std.proofs.Common.{◌≡◌, ℕ, List, [], ◌∷◌, ◌++◌, length, Ordering, Less, Equal, sym, refl, ap, ◌∙◌, subst, inl, inr, append_assoc, append-nil}
 use Rattle.std.proofs.lemmas.Bool.{true≢false}
 use Rattle.std.specs.Ordering.{ordering_reverse}
 use Rattle.reclaim.specs.Model.{Model, Lawful}
 use Rattle.machine.specs.Serial.{with_none, value_at, compared}
-use Rattle.machine.specs.Machine.{Event, Machine, Ran, Did, follows, worded, ran, opened}
-use Rattle.machine.specs.Laws.{History, Promise, Openable, Came, FitsIn, Carries, KeptOverRuns}
+use Rattle.machine.specs.Machine.{Machine, Ran, follows, worded, ran, opened}
+use Rattle.machine.specs.Laws.{History, Promise, Came, Carries, KeptOverRuns}
 use Rattle.machine.proofs.Lawfuls.{rules, ordered}
 use Rattle.machine.proofs.Final.{final}
 use Rattle.machine.proofs.Sizes.{ran_items}

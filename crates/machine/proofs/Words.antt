@@ -1,43 +1,31 @@
 -- Begins, tidy, and every word.
-use Rattle.std.proofs.Common.{◌≡◌, ℕ, zero, suc, ◌+◌, ◌<◌, ◌≤◌, Bool, true, false, cond, eqb, ltb, ◌⊎◌, List, [], ◌∷◌, ◌++◌, map, reverse, length, Some, None, Ok, Err, Option, Result, Ordering, Less, Equal, Greater, sym, refl, ap, ◌∙◌, subst, inl, inr, append_assoc, arith}
-use Rattle.std.proofs.lemmas.Bool.{cases_eq, true≢false, ltb-true}
-use Rattle.reclaim.specs.Model.{Model, after_enter, after_leave, after_protect, after_retire}
-use Rattle.machine.proofs.Rules.{Meaning, Rules}
+use Rattle.std.proofs.Common.{◌≡◌, ℕ, zero, suc, ◌<◌, Bool, true, false, cond, eqb, ◌⊎◌, List, [], ◌∷◌, ◌++◌, reverse, length, Some, None, Ok, Err, Option, Result, Ordering, sym, refl, ap, ◌∙◌, subst, inl, inr, append_assoc, arith}
+use Rattle.std.proofs.lemmas.Bool.{cases_eq}
+use Rattle.reclaim.specs.Model.{Model, after_enter}
+use Rattle.machine.proofs.Rules.{Rules}
 use Rattle.machine.proofs.Rules.{Order, cmp_of}
-use Rattle.machine.specs.Serial.{member}
-use Rattle.machine.specs.Machine.{put, same, Event, begins, touches, clears, gives, decides, completes, Trace, Memory, Outcome, is, points, link_of, mark_of, touch_prev, sought, clearing, weigh, link_after, front_after, relinked, retired, over, on, absent, present, push_swap, pop_read, pop_check, pop_swap, read_front, check_front, read_cell, check_prev, confirm_cell, unlink_marked, link_fresh, mark_cell, remove_cell, stepping, left, Adding, pushing, inserting, entered, first_stage, op_of, begun, refetched, fetched, beginning, opening, stop, given, collected_as, tidying}
+use Rattle.machine.specs.Machine.{put, Event, begins, gives, Trace, Memory, on, stepping, Adding, pushing, inserting, entered, first_stage, op_of, begun, refetched, fetched, beginning, opening, stop, collected_as, tidying}
 use Rattle.machine.proofs.Rules.{History, settled}
-use Rattle.machine.proofs.Trace.{Status, outside, under, decided, status, Cleared, deeds, played}
-use Rattle.machine.specs.Serial.{serve, looked, deleted, inserted, popped}
-use Rattle.machine.proofs.Scene.{Place, nowhere, free_at, held_now, link_at, fresh_of, on_list, kind, In, live, Below, Scene, OnStack, OnList, Dead, means, Safe, Calm, Busy, Hunt, Cur, Named, OwnsG, Owns, key, Sound, Clean, Beyond, Staged, ChasesG, Chases, Stands, scene_of, Debts, Inv, calm_refl, calm_trans, busy_calm, hunt_calm, cur_calm, dead_calm, named_calm, clean_calm, beyond_calm, staged_calm, stands_calm}
-use Rattle.machine.proofs.Frames.{put_here, put_apart, same_eq, status_completed, status_decided, status_begun}
-use Rattle.machine.proofs.Lists
+use Rattle.machine.proofs.Trace.{under, status}
+use Rattle.machine.proofs.Scene.{free_at, fresh_of, on_list, kind, Scene, means, Calm, key, Sound, Staged, Chases, Stands, scene_of, Inv, calm_refl, calm_trans, stands_calm}
+use Rattle.machine.proofs.Frames.{put_here, put_apart, status_begun}
 use Rattle.machine.proofs.Moves
 use Rattle.machine.proofs.More
-use Rattle.machine.proofs.Line
-use Rattle.machine.proofs.Prevs
 use Rattle.machine.proofs.Steps
-use Rattle.machine.specs.declared.cell.Prev.{Prev}
-use Rattle.machine.specs.declared.cell.Prev.TheVariants.{Front, At}
-use Rattle.machine.specs.declared.stage.Goal.{Goal}
-use Rattle.machine.specs.declared.stage.Goal.TheVariants.{Look, Add, Take, Finish}
-use Rattle.machine.specs.declared.stage.Search.{Search}
-use Rattle.machine.specs.declared.stage.Search.TheVariants.{ReadFront, ProtectFirst, CheckFront, ReadCell, ProtectNext, CheckPrev, ConfirmCell, ShiftPrev, ShiftCur, Unlink}
+use Rattle.machine.specs.declared.stage.Goal.TheVariants.{Look, Take}
+use Rattle.machine.specs.declared.stage.Search.TheVariants.{ReadFront}
 use Rattle.machine.specs.declared.stage.Stage.{Stage}
 use Rattle.machine.specs.declared.stage.Stage.TheVariants.{Outside, PushReadHead, PushSwapHead, PopReadHead, PopProtectTop, PopCheckHead, PopReadTop, PopSwapHead, Find, LinkFresh, MarkCell, RemoveCell}
 use Rattle.machine.specs.declared.word.Op.{Op}
 use Rattle.machine.specs.declared.word.Op.TheVariants.{Insert, Delete, Contains, Push, Pop}
-use Rattle.machine.specs.declared.answer.Answer.{Answer}
 use Rattle.machine.specs.declared.answer.Reason.{Reason}
 use Rattle.machine.specs.declared.answer.Reason.TheVariants as reason
-use Rattle.machine.specs.Answers.{under_way, yes, no, refused, tidied}
 use mathlib.Core.List.{reverse-append, reverse-reverse}
-use Rattle.machine.specs.declared.word.Kind.{Kind}
 use Rattle.machine.specs.declared.word.Kind.TheVariants.{Step, Begin}
 use Rattle.machine.specs.declared.word.Word.{Word}
 use Rattle.machine.specs.declared.word.Word.TheVariants.{Tidy, Of}
 use Rattle.machine.specs.Words.{parsed}
-use Rattle.machine.specs.Machine.{Machine, Tidied, shelve, collected, gone, refusing, moving, answering, worded}
+use Rattle.machine.specs.Machine.{Machine, Tidied, shelve, collected, gone, refusing, answering, worded}
 use Rattle.machine.proofs.Free
 use Rattle.machine.proofs.Ranges.{InRange, parsed_range}
 

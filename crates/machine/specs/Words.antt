@@ -1,5 +1,5 @@
 -- Words: what each bit says, and the refusals in their order. Assumes nothing.
-use Rattle.std.specs.Prelude.{ℕ, ◌/◌, ◌%◌, ◌^◌, Bool, true, false, cond, Ok, Err, Result, ◌==◌, nat_lt}
+use Rattle.std.specs.Prelude.{ℕ, ◌/◌, ◌%◌, ◌^◌, cond, Ok, Err, Result, ◌==◌, nat_lt}
 use Rattle.machine.specs.declared.answer.Reason.{Reason}
 use Rattle.machine.specs.declared.answer.Reason.TheVariants as reason
 use Rattle.machine.specs.declared.word.Op.{Op}

@@ -2,7 +2,7 @@
 use Rattle.std.proofs.Common.{◌≡◌, ℕ, suc, ◌+◌, ◌-◌, ◌≤◌, [], Some, None, sym, ap, ◌∙◌, subst, arith}
 use Rattle.reclaim.specs.Model.{Model, Lawful, Collected, Gave, GaveNone}
 use Rattle.reclaim.proofs.Counts.{gave_count, none_count}
-use Rattle.machine.specs.Machine.{Memory, Tidied, stop, gone, collected, collected_as, tidying, tidyings}
+use Rattle.machine.specs.Machine.{Memory, Tidied, stop, gone, collected, collected_as, tidying}
 
 -- what tidy has still to do
 abbrev pub left_over : {S : Type 0} → Model S → Memory S → Tidied S

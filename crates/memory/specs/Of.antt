@@ -1,5 +1,5 @@
 -- The code's memory as the machine's: the array of cells as maps from cell numbers, the free stack with its top first.
-use Rattle.std.specs.Prelude.{ℕ, min, Bool, false, List, reverse, Some, None, vec_items, Option, slice_index_or}
+use Rattle.std.specs.Prelude.{ℕ, min, Bool, false, List, reverse, None, vec_items, Option, slice_index_or}
 use Rattle.reclaim.specs.Model.{Model}
 use Rattle.machine.specs.declared.cell.Cell.{Cell}
 use Rattle.machine.specs.declared.cell.Link.{Link}

@@ -1,14 +1,14 @@
 -- Epochs are lawful.
-use Rattle.std.specs.Prelude.{◌≡◌, ℕ, zero, suc, ◌+◌, ◌-◌, ◌<◌, ◌≤◌, Bool, true, false, cond, not, ◌&&◌, ◌||◌, ltb, ◌⊎◌, List, [], ◌∷◌, ◌++◌, map, length, get_or, is_some, Some, None, Option, ◌==◌, nat_le, nat_lt, slice_index_or, refl}
-use Rattle.std.proofs.Common.{sym, ap, subst, ◌∙◌, inl, inr, ⊎_elim, arith}
+use Rattle.std.specs.Prelude.{◌≡◌, ℕ, zero, suc, ◌+◌, ◌-◌, ◌<◌, ◌≤◌, Bool, true, false, cond, not, ◌&&◌, ltb, ◌⊎◌, List, [], ◌∷◌, ◌++◌, map, get_or, is_some, Some, None, ◌==◌, nat_le, nat_lt, slice_index_or, refl}
+use Rattle.std.proofs.Common.{sym, ap, ◌∙◌, inl, inr, ⊎_elim, arith}
 use Rattle.std.specs.List.{remove}
 use Rattle.std.proofs.lemmas.Bool.{cases_eq, cases_Bool, eqb-true, eqb-false, leb-true, le-leb, lt-leb, ltb-true, lt-ltb, le-ltb, and_parts, and_from, both_ways}
 use Rattle.std.proofs.lemmas.List.{length-map}
 use Rattle.reclaim.specs.Cells.{all_pass, has, has_with}
 use Rattle.reclaim.specs.Model.{SameSizes, GoesOn, Gave, GaveNone, Collected, Lawful}
-use Rattle.reclaim.specs.Table.{Fits, cell, at, hold, with_held}
-use Rattle.reclaim.specs.Epochs.{Lag, Aged, LagTable, epochs, scheme, first_age, may_advance, ready, later, older, advance, settle, settled, ripe, without_ripe, gives, within, low, Low, aging, youngest}
-use Rattle.reclaim.specs.CellLemmas.{has_map, distinct_map, below_map, with_map, with_weaker, Gone}
+use Rattle.reclaim.specs.Table.{Fits, cell}
+use Rattle.reclaim.specs.Epochs.{Lag, Aged, LagTable, epochs, scheme, first_age, may_advance, ready, later, older, advance, settle, settled, ripe, without_ripe, gives, within, low, aging, youngest}
+use Rattle.reclaim.specs.CellLemmas.{has_map, distinct_map, below_map, with_map, with_weaker}
 use Rattle.reclaim.specs.TableLaws.{set_each, goes_on, same_sizes, same_protected, sound, entered, left, retired, gave}
 
 -- ages along the list

@@ -1,12 +1,12 @@
 -- Hazard pointers are lawful.
-use Rattle.std.specs.Prelude.{◌≡◌, ℕ, zero, suc, ◌<◌, Bool, true, false, ◌&&◌, ◌||◌, List, [], ◌∷◌, length, get_or, Some, None, Option, slice_index_or, slice_set, refl}
+use Rattle.std.specs.Prelude.{◌≡◌, ℕ, zero, suc, ◌<◌, true, false, ◌&&◌, List, [], ◌∷◌, length, get_or, Some, None, Option, slice_index_or, slice_set, refl}
 use Rattle.std.proofs.Common.{sym, ap, subst, ◌∙◌, ⊎_elim, arith, length-set}
 use Rattle.std.proofs.lemmas.Bool.{cases_eq, cases_Bool, eq-eqb, and_parts, and_from, and_left, or_parts, or_cases, both_ways}
 use Rattle.std.proofs.lemmas.List.{get_or-set_same, get_or-set_other}
 use Rattle.reclaim.specs.declared.hazard.table.Row.{Row}
 use Rattle.reclaim.specs.Cells.{has_with}
 use Rattle.reclaim.specs.Model.{Protected, Lawful}
-use Rattle.reclaim.specs.Table.{Table, Fits, cell, at, put}
+use Rattle.reclaim.specs.Table.{Fits, cell, at, put}
 use Rattle.reclaim.specs.HazardPointers.{RowTable, hazard, scheme, guarded, stores, row_stores, rows_store, row_blank, empty_row, no_row, store, Vacant, ThreeSlots}
 use Rattle.reclaim.specs.TableLaws.{set_each, sound, others, entered, left, retired, collected, put_fits}
 

@@ -4,7 +4,7 @@ use Rattle.reclaim.specs.declared.held.HeldCell.{HeldCell}
 use Rattle.reclaim.specs.declared.hazard.table.Row.{Row}
 use Rattle.reclaim.specs.Cells.{oldest, without, cell_of}
 use Rattle.reclaim.specs.Model.{Model}
-use Rattle.reclaim.specs.Table.{Table, Scheme, cell, at, put, with_held, hold, model}
+use Rattle.reclaim.specs.Table.{Table, Scheme, cell, put, with_held, hold, model}
 
 -- the place of a session is its row, and nothing is noted of a held cell
 abbrev pub RowTable : Type 0

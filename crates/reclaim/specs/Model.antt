@@ -1,5 +1,5 @@
 -- What a reclaimer means, and the laws that make one lawful.
-use Rattle.std.specs.Prelude.{◌≡◌, ℕ, zero, suc, ◌+◌, ◌<◌, ◌≤◌, Bool, true, false, cond, not, ◌&&◌, ◌||◌, ◌⊎◌, Some, None, Option, Result, ◌==◌, ◌≢◌, nat_lt}
+use Rattle.std.specs.Prelude.{◌≡◌, ℕ, zero, suc, ◌+◌, ◌<◌, Bool, true, false, cond, not, ◌&&◌, ◌||◌, ◌⊎◌, Some, None, Option, Result, ◌==◌, ◌≢◌, nat_lt}
 use Rattle.reclaim.specs.declared.refusal.Refusal.{Refusal}
 use Rattle.reclaim.specs.declared.unlinked.Unlinked.{Unlinked}
 use Rattle.reclaim.specs.declared.unlinked.Unpaid.{Unpaid}

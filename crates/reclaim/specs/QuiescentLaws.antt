@@ -1,13 +1,13 @@
 -- Quiescent states are lawful.
-use Rattle.std.specs.Prelude.{◌≡◌, ℕ, zero, suc, ◌<◌, Bool, true, false, not, ◌&&◌, ◌||◌, List, [], ◌∷◌, ◌++◌, map, length, get_or, ◌≢◌, slice_index_or, slice_set, refl}
-use Rattle.std.proofs.Common.{sym, ap, subst, ◌∙◌, ⊎_elim, arith, length-set}
+use Rattle.std.specs.Prelude.{◌≡◌, ℕ, zero, suc, ◌<◌, Bool, true, false, not, List, [], ◌∷◌, ◌++◌, map, length, get_or, ◌≢◌, slice_index_or, slice_set, refl}
+use Rattle.std.proofs.Common.{sym, ap, ◌∙◌, ⊎_elim, arith, length-set}
 use Rattle.std.specs.List.{remove}
-use Rattle.std.proofs.lemmas.Bool.{cases_eq, cases_Bool, eq-eqb, eqb-true, and_parts, and_right, or_cases, both_ways, not-true, not-false}
+use Rattle.std.proofs.lemmas.Bool.{cases_eq, eq-eqb, eqb-true, and_parts, and_right, or_cases, both_ways, not-true, not-false}
 use Rattle.std.proofs.lemmas.List.{get_or-set_other}
-use Rattle.reclaim.specs.Cells.{all_pass, has, has_with}
+use Rattle.reclaim.specs.Cells.{all_pass, has_with}
 use Rattle.reclaim.specs.Model.{Lawful}
-use Rattle.reclaim.specs.Table.{Fits, cell, at}
-use Rattle.reclaim.specs.QuiescentStates.{Waiting, RecordTable, quiescent, scheme, waits, recorded, strike, InsideStill, full}
+use Rattle.reclaim.specs.Table.{cell}
+use Rattle.reclaim.specs.QuiescentStates.{Waiting, quiescent, scheme, waits, recorded, strike, InsideStill, full}
 use Rattle.reclaim.specs.CellLemmas.{has_map, distinct_map, below_map, with_map, with-++, with_weaker, pass-++, pass_map, Gone, gone_sub, gone_pass, removed_gone}
 use Rattle.reclaim.specs.TableLaws.{set_each, same_protected, sound, entered, left, retired, collected}
 

@@ -1,11 +1,11 @@
 -- The laws that every scheme's table obeys, from a few facts of the scheme.
-use Rattle.std.specs.Prelude.{◌≡◌, ℕ, zero, suc, ◌<◌, ◌≤◌, Bool, true, false, cond, not, ◌&&◌, ◌||◌, ◌⊎◌, List, [], ◌∷◌, ◌++◌, length, replicate, Some, None, Option, ◌==◌, ◌≢◌, slice_index_or, slice_set, refl}
+use Rattle.std.specs.Prelude.{◌≡◌, ℕ, zero, suc, ◌<◌, ◌≤◌, Bool, true, false, cond, not, ◌&&◌, ◌||◌, ◌⊎◌, List, [], ◌∷◌, length, Some, None, Option, ◌==◌, ◌≢◌, slice_index_or, slice_set, refl}
 use Rattle.std.proofs.Common.{sym, ap, subst, ◌∙◌, inl, inr, ⊎_elim, arith, length-set}
-use Rattle.std.proofs.lemmas.Bool.{cases_eq, cases_lt, eq-eqb, ne_eqb, and_parts, and_from, and_left, and_right, both_ways}
-use Rattle.std.proofs.lemmas.List.{get_or-set_same, get_or-set_other, length-replicate}
+use Rattle.std.proofs.lemmas.Bool.{cases_eq, cases_lt, eq-eqb, ne_eqb, and_parts, and_from, and_left, both_ways}
+use Rattle.std.proofs.lemmas.List.{get_or-set_same, get_or-set_other}
 use Rattle.reclaim.specs.declared.held.HeldCell.{HeldCell}
 use Rattle.reclaim.specs.Cells.{has, has_with, distinct, all_below, oldest, without, cell_of}
-use Rattle.reclaim.specs.Model.{Model, Sound, SameSizes, GoesOn, Entered, Left, Protected, Retired, Gave, GaveNone, Collected}
+use Rattle.reclaim.specs.Model.{Model, Sound, SameSizes, GoesOn, Entered, Left, Protected, Retired, Gave, Collected}
 use Rattle.reclaim.specs.Table.{Table, Scheme, Fits, cell, at, put, with_held, hold, model}
 use Rattle.reclaim.specs.CellLemmas.{counted, has_below, has-++, with-++, distinct_push, below_push, with_has, Gone, gone_was, gone_left, gone_apart, gone_below, gone_kept, gone_free, oldest_gone, none_stays, none_busy}
 

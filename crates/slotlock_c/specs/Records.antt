@@ -1,5 +1,5 @@
 -- An answer as a record: its letter and its value.
-use Rattle.std.specs.Prelude.{ℕ, List}
+use Rattle.std.specs.Prelude.{ℕ}
 use Rattle.machine.specs.declared.answer.Answer.{Answer}
 use Rattle.machine.specs.declared.answer.AnswerKind.{AnswerKind}
 use Rattle.machine.specs.declared.answer.AnswerKind.TheVariants.{UnderWay, Yes, No, Tidied, Refused}

@@ -1,6 +1,6 @@
 use Rattle.std.proofs.Common.{refl}
 use Rattle.machine.specs.Words.{parsed}
-use Rattle.machine.specs.Machine.{put, shelve, counting, tidying, moving, worded, ran}
+use Rattle.machine.specs.Machine.{put, shelve, counting, tidying, worded, ran}
 use Rattle.samples.proofs.samples_hold.Goals as goal
 
 pub returns : goal.returns

@@ -1,4 +1,4 @@
-use Rattle.std.proofs.Common.{◌≡◌, sym, ◌∙◌, arith}
+use Rattle.std.proofs.Common.{sym, ◌∙◌, arith}
 use Rattle.items.specs.OrderLaws.{at_both, past_first, past_second, past_both, smaller_byte, greater_byte, same_byte}
 use Rattle.items.proofs.byte_string.compare_bytes.Goals as goal
 

@@ -1,4 +1,4 @@
-use Rattle.std.proofs.Common.{◌≡◌, Some, sym, refl, ap, ◌∙◌}
+use Rattle.std.proofs.Common.{Some, sym, refl, ap, ◌∙◌}
 use Rattle.std.proofs.lemmas.Bool.{ltb-true, ltb-false}
 use Rattle.list.proofs.Placing.{at_place, past_place}
 use Rattle.list.proofs.places.compare_places.Goals as goal

@@ -1,4 +1,4 @@
-use Rattle.std.proofs.Common.{◌≡◌, ◌+◌, ◌*◌, arith, rules}
+use Rattle.std.proofs.Common.{◌≡◌, ◌+◌, ◌*◌, rules}
 use Rattle.schedule.specs.Words.{encoded}
 use Rattle.schedule.proofs.Encodings.{parsed_encoded}
 use Rattle.schedule.proofs.word.encode.Goals as goal

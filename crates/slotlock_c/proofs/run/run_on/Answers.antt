@@ -1,4 +1,4 @@
-use Rattle.std.proofs.Common.{◌≡◌, ◌++◌, map, length, drop, refl, ap, ◌∙◌, inl, inr, rules}
+use Rattle.std.proofs.Common.{◌++◌, map, length, drop, refl, ap, ◌∙◌, inl, inr}
 use Rattle.machine.proofs.Whole.{whole}
 use Rattle.machine.specs.Answers.{number}
 use Rattle.machine.specs.Machine.{ran}

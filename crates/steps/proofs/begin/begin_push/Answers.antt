@@ -1,4 +1,4 @@
-use Rattle.std.proofs.Common.{◌≡◌, sym, ◌∙◌}
+use Rattle.std.proofs.Common.{sym, ◌∙◌}
 use Rattle.machine.specs.Machine.{pushing}
 use Rattle.memory.specs.Of.{memory_of}
 use Rattle.steps.proofs.Fetching.{fetch_none}

@@ -1,4 +1,4 @@
-use Rattle.std.proofs.Common.{◌≡◌, ◌⊎◌, sym, ap, ◌∙◌, ⊎_elim, rules}
+use Rattle.std.proofs.Common.{sym, ap, ◌∙◌, ⊎_elim, rules}
 use Rattle.machine.specs.Serial.{compared}
 use Rattle.memory.specs.Of.{memory_of}
 use Rattle.steps.proofs.Acting.{ways}

@@ -1,4 +1,4 @@
-use Rattle.std.proofs.Common.{◌≡◌, ◌+◌, ◌≤◌, ◌++◌, length, take, drop}
+use Rattle.std.proofs.Common.{◌≡◌, ◌++◌, length, take, drop}
 use Rattle.machine.specs.Serial.{compared}
 use Rattle.machine.specs.Machine.{ran}
 use Rattle.board.specs.View.{view}

@@ -1,5 +1,4 @@
-use Rattle.std.proofs.Common.{◌≡◌, ℕ, ◌-◌, sym, ap, ◌∙◌, arith, rules}
-use Rattle.machine.specs.Machine.{counting}
+use Rattle.std.proofs.Common.{sym, arith, rules}
 use Rattle.memory.proofs.Tops.{counting_start, counting_more}
 use Rattle.memory.proofs.free.FreeStack.all.Goals as goal
 

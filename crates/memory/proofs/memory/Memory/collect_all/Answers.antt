@@ -1,4 +1,4 @@
-use Rattle.std.proofs.Common.{◌≡◌, ◌-◌, sym, ap, ◌∙◌, arith, rules}
+use Rattle.std.proofs.Common.{◌-◌, sym, ap, ◌∙◌, arith, rules}
 use Rattle.memory.specs.Of.{memory_of}
 use Rattle.memory.proofs.Tidying.{falls, stays, turn, ends}
 use Rattle.memory.proofs.memory.Memory.collect_all.Goals as goal

@@ -1,4 +1,4 @@
-use Rattle.std.proofs.Common.{true, false, get_or, refl, arith}
+use Rattle.std.proofs.Common.{get_or, refl, arith}
 use Rattle.machine.specs.declared.cell.Cell.{Cell}
 use Rattle.memory.specs.Of.{no_cell}
 use Rattle.memory.proofs.Maps.{links_set, marks_same, places_same}

@@ -1,5 +1,3 @@
-use Rattle.std.proofs.Common.{ap, ◌∙◌, arith}
-use Rattle.reclaim.specs.Epochs.{aging}
 use Rattle.reclaim.specs.EpochLaws.{aging_held}
 use Rattle.reclaim.proofs.epoch.table.Epochs.hold.Goals as goal
 

@@ -1,4 +1,4 @@
-use Rattle.std.proofs.Common.{◌≡◌, ◌-◌, ◌<◌, vec_items, sym, ap, ◌∙◌, subst}
+use Rattle.std.proofs.Common.{◌-◌, ◌<◌, vec_items, sym, ap, ◌∙◌, subst}
 use Rattle.reclaim.specs.Epochs.{LagTable, settled, first_age}
 use Rattle.reclaim.specs.Views.{epoch_table}
 use Rattle.reclaim.specs.EpochLaws.{settle_still, settle_on, ages_fall}
