@@ -4,12 +4,12 @@
 // changing sides changes smaller to greater, and smaller than a smaller one is smaller. `ItemOrder` states them,
 // and code that is generic over it rests on nothing else. There are two orders:
 //
-// - unsigned 32-bit numbers, by size (`NumberOrder`);
-// - byte strings of 0 to 11 bytes (`ByteStringOrder`): the first differing byte decides, and a beginning comes first.
+// - unsigned 32-bit numbers, by size (`u32`);
+// - byte strings of 0 to 11 bytes (`ByteString`): the first differing byte decides, and a beginning comes first.
 //
 //     let low = ByteString::new(b"MSCU7")?;
 //     let high = ByteString::new(b"MSCU9")?;
-//     check_eq(low.compare(&high), Ordering::Less)
+//     low.compare(&high) // Ordering::Less
 #![tactic(auto)]
 
 mod byte_string;
