@@ -8,6 +8,8 @@ import re
 import sys
 from pathlib import Path
 
+from respell import block_end
+
 MEMBERS = {"model": "R.model", "state": "R.state", "order": "T.order", "value": "T.value"}
 TRAITS = {"crates/reclaim/src/reclaimer.rt", "crates/items/src/order.rt"}
 
@@ -22,12 +24,7 @@ def through(text, start):
         if m.start() < at or "//" in text[text.rfind("\n", 0, m.start()) + 1 : m.start()]:
             continue
         brace = text.find("{", m.end())
-        depth, end = 0, brace
-        while end < len(text):
-            depth += (text[end] == "{") - (text[end] == "}")
-            end += 1
-            if depth == 0:
-                break
+        end = block_end(text, brace)
         out += [text[at:brace], turned(text[brace:end])]
         at = end
     return text[:start] + "".join(out) + text[at:]

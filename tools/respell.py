@@ -126,6 +126,16 @@ def cut_comment(line, mark):
     return line, ""
 
 
+def block_end(text, brace):
+    """Behind the brace that closes the one at `brace`."""
+    depth = 0
+    for at in range(brace, len(text)):
+        depth += (text[at] == "{") - (text[at] == "}")
+        if depth == 0:
+            return at + 1
+    return len(text)
+
+
 def in_clauses(text, turned, fields):
     """A source file: clauses and `ghost` items alone, each from its word to the brace that closes it."""
     out, at = [], 0
@@ -138,12 +148,7 @@ def in_clauses(text, turned, fields):
         brace = text.find("{", m.end())
         if brace < 0 or re.search(r"\b(?:fn|struct|impl|trait)\b", text[m.end() : brace]):
             continue
-        depth, end = 0, brace
-        while end < len(text):
-            depth += (text[end] == "{") - (text[end] == "}")
-            end += 1
-            if depth == 0:
-                break
+        end = block_end(text, brace)
         out += [text[at:brace], replace(text[brace:end], turned, fields)]
         at = end
     return "".join(out) + text[at:]

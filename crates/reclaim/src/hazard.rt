@@ -8,7 +8,7 @@ ghost use Rattle.reclaim.specs.Made.{Made};
 ghost use Rattle.reclaim.specs.Table.{new as new_table};
 ghost use Rattle.reclaim.specs.Views.{hazard_table};
 ghost use Rattle.reclaim.specs.HazardLaws.{hazard_lawful};
-ghost use Rattle.std.proofs.Common.{rules, arith};
+ghost use Rattle.std.proofs.Common.{rules};
 
 use crate::checks::{check_inside, check_outside, check_protect, check_sizes};
 use crate::held::Held;
@@ -56,7 +56,7 @@ impl Reclaimer for HazardPointers {
 
     ghost model = { hazard };
 
-    ghost good = { first_of (Prim.search rules, Prim.grind (arith, Self.row.coded.inj)) };
+    ghost good = { Prim.search rules };
 
     ghost lawful = { hazard_lawful };
 

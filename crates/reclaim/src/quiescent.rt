@@ -10,7 +10,7 @@ ghost use Rattle.reclaim.specs.Made.{Made};
 ghost use Rattle.reclaim.specs.Table.{cell as cell_in, new as new_table, hold as hold_in, with_held};
 ghost use Rattle.reclaim.specs.Views.{quiescent_table};
 ghost use Rattle.reclaim.specs.QuiescentLaws.{quiescent_lawful};
-ghost use Rattle.std.proofs.Common.{rules, arith};
+ghost use Rattle.std.proofs.Common.{rules};
 
 use crate::checks::{check_inside, check_outside, check_protect, check_sizes};
 use crate::held::Held;
@@ -105,7 +105,7 @@ impl Reclaimer for QuiescentStates {
 
     ghost model = { quiescent };
 
-    ghost good = { first_of (Prim.search rules, Prim.grind (arith, Self.row.coded.inj)) };
+    ghost good = { Prim.search rules };
 
     ghost lawful = { quiescent_lawful };
 
