@@ -9,6 +9,6 @@ mod search;
 mod stack_steps;
 pub mod told;
 
-pub use moment::Moment;
+pub use moment::{Moment, Tallies};
 pub use names::{item, letter};
 pub use told::Told;

@@ -1,7 +1,27 @@
 // What can be seen of one word: what was asked, where its session stood before and after, and the answer.
+ghost use Rattle.std.specs.Prelude.{◌≡◌, Some, None};
+ghost use Rattle.machine.specs.declared.cell.Prev.TheVariants.{Front, At};
+ghost use Rattle.machine.specs.declared.stage.Stage.TheVariants.{LinkFresh, MarkCell};
+
 use machine::{Answer, Cell, Op, Prev, Reason, Search, Stage, Word};
 
-#[derive(Clone, Copy)]
+// How many cells are held and free.
+#[derive(Clone, Copy, PartialEq, Eq, Debug)]
+pub struct Tallies {
+    pub held: u16,
+    pub free: u16,
+}
+
+impl From<(u16, u16)> for Tallies {
+    ghost from_gives = { λ pair tallies. (tallies.held ≡ pair.0) × (tallies.free ≡ pair.1) };
+
+    fn from(pair: (u16, u16)) -> Tallies {
+        let (held, free) = pair;
+        Tallies { held, free }
+    }
+}
+
+#[derive(Clone, Copy, PartialEq, Eq, Debug)]
 pub struct Moment {
     pub word: u32,
     pub asked: Result<Word, Reason>,
@@ -10,9 +30,9 @@ pub struct Moment {
     pub after: Stage,
     // the operation that the session is in, or has just ended
     pub op: Option<Op>,
-    // held and free cells before the word and after it
-    pub tallies: ((u16, u16), (u16, u16)),
+    pub tallies_before: Tallies,
     // as they are after the word
+    pub tallies: Tallies,
     pub head: Option<u8>,
     pub front: Option<u8>,
     // the cell whose link the step compared, as it is after the word
@@ -21,59 +41,27 @@ pub struct Moment {
     pub woke: bool,
 }
 
-fn cell_of(prev: Prev) -> Option<u8> {
-    match prev {
-        Prev::Front => None,
-        Prev::At(cell) => Some(cell),
-    }
-}
-
-fn compared_in(at: Search) -> Option<u8> {
-    match at {
-        Search::CheckPrev {
-            prev,
-            cur: _,
-            marked: _,
-            next: _,
-            place: _,
-        } => cell_of(prev),
-        Search::ConfirmCell {
-            prev: _,
-            cur,
-            next: _,
-            place: _,
-        } => Some(cur),
-        Search::Unlink {
-            prev,
-            cur: _,
-            next: _,
-        } => cell_of(prev),
-        _ => None,
-    }
-}
-
 // The cell whose link the next step of a stage compares with what it has read.
-pub fn compared_at(stage: Stage) -> Option<u8> {
+pub fn compared_at(stage: Stage) -> Option<u8>
+    ensures marks { (sought prev cur next : _) → stage ≡ MarkCell sought prev cur next → result ≡ Some cur }
+    ensures links { (sought fresh cell cur : _) → stage ≡ LinkFresh sought fresh (At cell) cur → result ≡ Some cell }
+    ensures first { (sought fresh cur : _) → stage ≡ LinkFresh sought fresh Front cur → result ≡ None }
+{
     match stage {
-        Stage::Find { goal: _, at } => compared_in(at),
-        Stage::LinkFresh {
-            sought: _,
-            fresh: _,
-            prev,
-            cur: _,
-        } => cell_of(prev),
-        Stage::MarkCell {
-            sought: _,
-            prev: _,
-            cur,
-            next: _,
-        } => Some(cur),
-        Stage::RemoveCell {
-            sought: _,
-            prev,
-            cur: _,
-            next: _,
-        } => cell_of(prev),
+        Stage::Find {
+            at: Search::CheckPrev { prev, .. } | Search::Unlink { prev, .. },
+            ..
+        }
+        | Stage::LinkFresh { prev, .. }
+        | Stage::RemoveCell { prev, .. } => match prev {
+            Prev::Front => None,
+            Prev::At(cell) => Some(cell),
+        },
+        Stage::Find {
+            at: Search::ConfirmCell { cur, .. },
+            ..
+        }
+        | Stage::MarkCell { cur, .. } => Some(cur),
         _ => None,
     }
 }

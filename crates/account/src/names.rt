@@ -1,27 +1,24 @@
 // Names in sentences: sessions, cells, items.
+ghost use Rattle.std.specs.Prelude.{◌≡◌, ◌+◌, ◌<◌, ◌≤◌};
+
 use std::fmt;
 
-// The session's letter.
-pub fn letter(session: u8) -> char {
+// The session's letter, A for the first; a question mark past the eighth.
+pub fn letter(session: u8) -> char
+    ensures known { session < 8 → result ≡ 65 + session }
+    ensures other { 8 ≤ session → result ≡ 63 }
+{
     match session {
-        0 => 'A',
-        1 => 'B',
-        2 => 'C',
-        3 => 'D',
-        4 => 'E',
-        5 => 'F',
-        6 => 'G',
-        7 => 'H',
+        0..=7 => char::from(b'A' + session),
         _ => '?',
     }
 }
 
 // The item at a place, as the schedule writes it.
 pub fn item(labels: &[String], place: u16) -> &str {
-    match labels.get(place as usize) {
-        Some(label) => label.as_str(),
-        None => "?",
-    }
+    labels
+        .get(usize::from(place))
+        .map_or("?", |label| label.as_str())
 }
 
 // Where a link goes.

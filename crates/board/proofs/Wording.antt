@@ -3,6 +3,7 @@ use Rattle.std.proofs.Common.{◌≡◌, ℕ, ◌<◌, cond, ◌⊎◌, List, le
 use Rattle.std.proofs.lemmas.Bool.{cases_eq, eq-eqb, ne_eqb}
 use Rattle.std.specs.Ordering.{ordering_reverse}
 use Rattle.reclaim.specs.Model.{Model, Lawful}
+use Rattle.machine.specs.declared.answer.Answer.{Answer}
 use Rattle.machine.specs.declared.answer.Reason.{Reason}
 use Rattle.machine.specs.declared.answer.Reason.TheVariants as reason
 use Rattle.machine.specs.declared.word.Kind.{Kind}
@@ -14,6 +15,7 @@ use Rattle.machine.specs.Machine.{Machine, Did, answering, refusing, worded}
 use Rattle.machine.specs.Laws.{Carries}
 use Rattle.machine.proofs.Ranges.{InRange, parsed_range}
 use Rattle.machine.proofs.Whole.{one_word, idles}
+use Rattle.board.specs.Runs.{WordDone}
 
 module _ {S : Type 0} (M : Model S) (cmp : ℕ → ℕ → Ordering) (n : ℕ) (m : Machine S) (w : ℕ) where
   pub other_items : (n ≡ m.items → ⊥) → worded M cmp n m w ≡ refusing M m reason.OtherItems
@@ -42,3 +44,10 @@ module _ {State I V : Type 0} (M : Model State) (law : Lawful M) (cmp : V → V 
       go (inr ne) =
           let q = other_items M (compared cmp value given) (length given) m w ne in
           subst (λ (d : Did State). Carries M cmp value given m d.after d.seen) (sym q) (idles M law cmp value same itself sides smaller given m)
+
+  -- a word call, by what the word does
+  pub word_done : (given : List I) (m next : Machine State) (w : ℕ) (said : Answer) (d : Did State) → worded M (compared cmp value given) (length given) m w ≡ d
+      → next ≡ d.after → said ≡ d.answer → WordDone M cmp value given m w next said
+  word_done given m next w said d e a q =
+      let p = a ∙ sym (ap (λ x. x.after) e) in
+      record { after = p; answer = q ∙ sym (ap (λ x. x.answer) e); promise = word_carries given m next w p }

@@ -10,7 +10,8 @@ use machine::{Answer, Reason};
 use reclaim::Reclaimer;
 use std::alloc::Global;
 
-// The calls that open a board and give it words.
+// The calls that open a board and give it words. Each is thin over a function with the same contract, so that an edit
+// of it is refused at its own line.
 impl<R: Reclaimer> Board<R> {
     // A board for so many items over a reclaimer that has nobody inside and holds nothing.
     // Where it is refused the reclaimer comes back as it was.

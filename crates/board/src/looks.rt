@@ -14,13 +14,11 @@ impl<R: Reclaimer> Board<R> {
         self.memory.tallies()
     }
 
+    #[tactic(auto, unfolding(crate::specs::View::stages))]
     fn stage_at(&self, session: usize) -> Stage
         ensures { result ≡ (view R.state self.now).stage session }
     {
-        match self.stages.get(session) {
-            Some(stage) => *stage,
-            None => Stage::Outside,
-        }
+        self.stages.get(session).copied().unwrap_or(Stage::Outside)
     }
 
     // Where a session stands; one that there is not is outside.

@@ -1,5 +1,5 @@
 ghost use Rattle.std.specs.Prelude.{◌≡◌};
-ghost use Rattle.board.specs.Opens.{inside_below, Opened};
+ghost use Rattle.board.specs.Opens.{inside_below, refused, Opened};
 
 use crate::board::Board;
 use machine::{Reason, Stage};
@@ -7,21 +7,24 @@ use memory::Memory;
 use reclaim::Reclaimer;
 use std::alloc::Global;
 
-// A reclaimer that no board was opened over, and why.
+// A reclaimer that no board was opened over, and why. It is not `Drop`, so who lets the reclaimer go says so by name.
 pub struct Unopened<R> {
     pub why: Reason,
     pub reclaimer: R,
 }
 
+impl<R> Unopened<R> {
+    pub(crate) fn new(why: Reason, reclaimer: R) -> Unopened<R>
+        ensures { result ≡ refused reclaimer why }
+    {
+        Unopened { why, reclaimer }
+    }
+}
+
 fn some_inside<R: Reclaimer>(reclaimer: &R) -> bool
     ensures { result ≡ inside_below R.model (R.state reclaimer.now) 8 }
 {
-    for s in 0..8 {
-        if reclaimer.is_inside(s) {
-            return true;
-        }
-    }
-    false
+    (0..8).any(|session| reclaimer.is_inside(session))
 }
 
 impl<R: Reclaimer> Board<R> {
@@ -30,28 +33,20 @@ impl<R: Reclaimer> Board<R> {
     {
         let (sessions, cells) = reclaimer.sizes();
         if sessions == 0 || sessions > 8 || cells == 0 || cells > 256 || items > 1024 {
-            return Err(Unopened {
-                why: Reason::Sizes,
-                reclaimer,
-            });
+            return Err(Unopened::new(Reason::Sizes, reclaimer));
         }
         if reclaimer.held_count() > 0 || some_inside(&reclaimer) {
-            return Err(Unopened {
-                why: Reason::InUse,
-                reclaimer,
-            });
+            return Err(Unopened::new(Reason::InUse, reclaimer));
         }
-        match Memory::new(heap, reclaimer) {
-            Ok(memory) => Ok(Board {
-                memory,
-                stages: [Stage::Outside; 8],
-                sessions,
-                items,
-            }),
-            Err(reclaimer) => Err(Unopened {
-                why: Reason::Memory,
-                reclaimer,
-            }),
-        }
+        let memory = Memory::new(heap, reclaimer).map_err(|reclaimer| Unopened::new(
+            Reason::Memory,
+            reclaimer,
+        ))?;
+        Ok(Board {
+            memory,
+            stages: [Stage::Outside; 8],
+            sessions,
+            items,
+        })
     }
 }

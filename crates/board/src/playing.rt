@@ -17,23 +17,12 @@ pub(crate) fn open_and_run<R: Reclaimer, T: ItemOrder>(
     ensures { PlayedAs R.model R.state T.order T.value reclaimer items.now words.now answers.old answers.new result }
 {
     if answers.len() < words.len() {
-        return Err(Unopened {
-            why: Reason::ShortAnswers,
-            reclaimer,
-        });
+        return Err(Unopened::new(Reason::ShortAnswers, reclaimer));
     }
     if items.len() > 1024 {
-        return Err(Unopened {
-            why: Reason::Sizes,
-            reclaimer,
-        });
+        return Err(Unopened::new(Reason::Sizes, reclaimer));
     }
-    match Board::open_over(heap, reclaimer, items.len() as u16) {
-        Err(refused) => Err(refused),
-        Ok(opened) => {
-            let mut board = opened;
-            let _ = board.do_run(items, words, answers);
-            Ok(board)
-        }
-    }
+    let mut board = Board::open_over(heap, reclaimer, items.len() as u16)?;
+    let _ = board.do_run(items, words, answers);
+    Ok(board)
 }

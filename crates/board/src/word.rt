@@ -8,6 +8,7 @@ ghost use Rattle.board.specs.View.{view};
 use crate::board::Board;
 use items::ItemOrder;
 use machine::{Answer, Kind, Reason, Word};
+use memory::Turn;
 use reclaim::Reclaimer;
 use steps::act;
 
@@ -18,13 +19,12 @@ impl<R: Reclaimer> Board<R> {
         ensures after { view R.state self.new ≡ (landed R.model (view R.state self.old) session (moving R.model (compared T.order T.value items.now) (view R.state self.old).memory session ((view R.state self.old).stage session) kind)).after }
         ensures answer { result ≡ (moving R.model (compared T.order T.value items.now) (view R.state self.old).memory session ((view R.state self.old).stage session) kind).answer }
     {
-        act(
-            &mut self.memory,
+        let mut turn = Turn {
+            memory: &mut self.memory,
             session,
-            items,
-            &mut self.stages[session as usize],
-            kind,
-        )
+            stage: &mut self.stages[session as usize],
+        };
+        act(&mut turn, items, kind)
     }
 
     fn tidy(&mut self) -> Answer

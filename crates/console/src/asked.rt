@@ -1,20 +1,11 @@
 // Words and answers as the tables show them.
-use account::{item, letter};
-use machine::{Answer, AnswerKind};
-use schedule::WordKind;
+use account::letter;
+use machine::{Answer, AnswerKind, place_of, session_of};
+use schedule::{Keyword, NoWordKind, WordKind};
 use std::fmt;
 
-fn kind_of(word: u32) -> Option<WordKind> {
-    match word / 0x2000_0000 {
-        0 => Some(WordKind::Step),
-        1 => Some(WordKind::Insert),
-        2 => Some(WordKind::Delete),
-        3 => Some(WordKind::Contains),
-        4 => Some(WordKind::Push),
-        5 => Some(WordKind::Pop),
-        6 => Some(WordKind::Tidy),
-        _ => None,
-    }
+fn kind_of(word: u32) -> Result<WordKind, NoWordKind> {
+    WordKind::try_from((word / 0x2000_0000) as u8)
 }
 
 // The session of a word as a column.
@@ -23,17 +14,11 @@ pub struct Who(pub u32);
 
 impl fmt::Display for Who {
     fn fmt<W: fmt::Write>(&self, f: &mut fmt::Formatter<W>) -> fmt::Result {
-        let session = (self.0 / 0x0100_0000 % 32) as u8;
+        let session = session_of(self.0);
         match kind_of(self.0) {
-            Some(WordKind::Tidy) => f.write_str("- "),
-            _ => {
-                if session < 8 {
-                    let who = letter(session);
-                    write!(f, "{who} ")
-                } else {
-                    write!(f, "{session:<2}")
-                }
-            }
+            Ok(WordKind::Tidy) => f.write_str("- "),
+            _ if session < 8 => write!(f, "{} ", letter(session)),
+            _ => write!(f, "{session:<2}"),
         }
     }
 }
@@ -45,38 +30,28 @@ pub struct Asked<'a> {
     pub labels: &'a [String],
 }
 
-fn with_item<W: fmt::Write>(
-    asked: &Asked<'_>,
-    name: &str,
-    f: &mut fmt::Formatter<W>,
-) -> fmt::Result {
-    let place = (asked.word % 65536) as u16;
-    if (place as usize) < asked.labels.len() {
-        let label = item(asked.labels, place);
-        write!(f, "{name} {label}")
-    } else {
-        write!(f, "{name} place {place}")
+impl Asked<'_> {
+    fn with_item<W: fmt::Write>(&self, kind: WordKind, f: &mut fmt::Formatter<W>) -> fmt::Result {
+        let name = kind.name();
+        let place = place_of(self.word);
+        match self.labels.get(usize::from(place)) {
+            Some(label) => write!(f, "{name} {label}"),
+            None => write!(f, "{name} place {place}"),
+        }
     }
 }
 
 impl fmt::Display for Asked<'_> {
     fn fmt<W: fmt::Write>(&self, f: &mut fmt::Formatter<W>) -> fmt::Result {
         let word = self.word;
-        let Some(kind) = kind_of(word) else {
-            return write!(f, "{word:#010x}");
-        };
-        let name = kind.name();
-        let spare = match kind {
-            WordKind::Tidy => word % 0x2000_0000,
-            WordKind::Step | WordKind::Pop => word % 0x0100_0000,
-            _ => word / 65536 % 256,
-        };
-        if spare != 0 {
-            return write!(f, "{word:#010x}");
-        }
-        match kind {
-            WordKind::Tidy | WordKind::Step | WordKind::Pop => f.write_str(name),
-            _ => with_item(self, name, f),
+        match kind_of(word) {
+            Ok(kind @ WordKind::Tidy) if word % 0x2000_0000 == 0 => f.write_str(kind.name()),
+            Ok(kind @ (WordKind::Step | WordKind::Pop)) if word % 0x0100_0000 == 0 => {
+                f.write_str(kind.name())
+            }
+            Ok(kind @ (WordKind::Insert | WordKind::Delete | WordKind::Contains | WordKind::Push))
+                if word / 65536 % 256 == 0 => self.with_item(kind, f),
+            _ => write!(f, "{word:#010x}"),
         }
     }
 }
@@ -94,13 +69,8 @@ impl fmt::Display for Answered {
         let value = self.answer.value;
         match self.answer.kind {
             AnswerKind::UnderWay => f.write_str("under way"),
-            AnswerKind::Yes => {
-                if self.pops {
-                    write!(f, "yes {value}")
-                } else {
-                    f.write_str("yes")
-                }
-            }
+            AnswerKind::Yes if self.pops => write!(f, "yes {value}"),
+            AnswerKind::Yes => f.write_str("yes"),
             AnswerKind::No => f.write_str("no"),
             AnswerKind::Tidied => write!(f, "tidied {value}"),
             AnswerKind::Refused => write!(f, "refused {value}"),

@@ -1,13 +1,14 @@
-// What the commands of the program share: their arguments, the schedule they are given, how they end, how words are shown.
+// What the commands of the program share: the schedule they are given, how its words are given and shown, how they end.
 #![tactic(auto)]
 
-pub mod arguments;
 pub mod asked;
+pub mod given;
 pub mod job;
-pub mod source;
+pub mod player;
 pub mod stop;
 
-pub use arguments::{FileArguments, file_arguments, unknown_option};
 pub use asked::{Answered, Asked, Who};
-pub use job::{Job, MOST_STEPS, refused, sessions_of, with_schedule};
-pub use stop::{Stop, tell};
+pub use given::Given;
+pub use job::{sessions_of, with_schedule};
+pub use player::{MOST_STEPS, Player};
+pub use stop::{Stop, refused, tell, unknown};

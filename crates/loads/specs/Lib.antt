@@ -3,4 +3,3 @@ pub mod Answers
 pub mod Begins
 pub mod Keys
 pub mod Names
-pub mod Openings

@@ -4,6 +4,7 @@ ghost use Rattle.loads.specs.Begins.{kind_drawn, place_drawn, begin_word};
 
 use schedule::{WordKind, encode};
 
+// Of sixteen numbers four draw an insert, a delete or a look each, and two a push or a pop each.
 fn drawn_kind(r: u64) -> WordKind
     ensures { result ≡ kind_drawn r }
 {

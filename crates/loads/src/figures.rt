@@ -6,7 +6,7 @@ ghost use Rattle.loads.specs.Answers.{letter_number, counted, ends, refuses};
 use crate::sum::mix_answer;
 use machine::{Answer, AnswerKind};
 
-#[derive(Clone, Copy)]
+#[derive(Clone, Copy, PartialEq, Eq, Debug, Default)]
 pub struct Figures {
     pub words: u64,
     // answers yes and no
@@ -16,36 +16,15 @@ pub struct Figures {
     pub sum: u64,
 }
 
-// One operation for yes and no.
-fn ended(kind: AnswerKind) -> u64
-    ensures { result ≡ ends kind }
-{
-    match kind {
-        AnswerKind::Yes | AnswerKind::No => 1,
-        _ => 0,
-    }
-}
-
-fn refused(kind: AnswerKind) -> u64
-    ensures { result ≡ refuses kind }
-{
-    match kind {
-        AnswerKind::Refused => 1,
-        _ => 0,
-    }
+// What a load that was not refused came to: its figures, and the cells held and free at its end.
+#[derive(Clone, Copy, PartialEq, Eq, Debug)]
+pub struct Done {
+    pub figures: Figures,
+    pub held: u16,
+    pub free: u16,
 }
 
 impl Figures {
-    pub(crate) fn new() -> Figures {
-        Figures {
-            words: 0,
-            operations: 0,
-            refusals: 0,
-            most_held: 0,
-            sum: 0,
-        }
-    }
-
     // Counts an answer, after which so many cells are held.
     pub(crate) fn count(&mut self, answer: Answer, held: u16)
         ensures words { self.new.words ≡ counted self.old.words 1 }
@@ -54,9 +33,11 @@ impl Figures {
         ensures most { self.new.most_held ≡ max self.old.most_held held }
         ensures sum { self.new.sum ≡ mixed self.old.sum (letter_number answer.kind * 65536 + answer.value) }
     {
+        let ended = matches!(answer.kind, AnswerKind::Yes | AnswerKind::No);
+        let refused = answer.kind == AnswerKind::Refused;
         self.words = self.words.saturating_add(1);
-        self.operations = self.operations.saturating_add(ended(answer.kind));
-        self.refusals = self.refusals.saturating_add(refused(answer.kind));
+        self.operations = self.operations.saturating_add(u64::from(ended));
+        self.refusals = self.refusals.saturating_add(u64::from(refused));
         self.most_held = self.most_held.max(held);
         self.sum = mix_answer(self.sum, answer);
     }

@@ -1,6 +1,6 @@
 // The items of a load: each place has a number, and some places have the same one.
-ghost use Rattle.std.specs.Prelude.{◌≡◌, ℕ, ◌+◌, ◌*◌, ◌/◌, ◌%◌, ◌<◌, IfOk, vec_len};
-ghost use Rattle.loads.specs.Keys.{number_at, byte_at, Numbered};
+ghost use Rattle.std.specs.Prelude.{◌≡◌, ℕ, ◌+◌, ◌*◌, ◌/◌, ◌%◌, ◌<◌, IfOk};
+ghost use Rattle.loads.specs.Keys.{number_at, byte_at, Made};
 
 use items::ByteString;
 use std::alloc::{AllocError, Global};
@@ -13,6 +13,23 @@ fn number_of(place: u16, keys: u16) -> u32
     u32::from(place) * 7919 % u32::from(keys - keys / 4)
 }
 
+// The items of a load: what is made of the number of each place.
+pub(crate) fn items<T: Drop, F: Fn(u32) -> T>(
+    heap: Global,
+    keys: u16,
+    item: F,
+) -> Result<Vec<T>, AllocError>
+    requires { F.IsAlwaysCallable item }
+    ensures { IfOk result (λ v. Made (F.post item) keys v.items) }
+{
+    let mut items = Vec::new(heap);
+    // No `map` with `collect`: only inside the loop is it known that there are keys to divide by.
+    for place in 0..keys {
+        items.push(item(number_of(place, keys)))?;
+    }
+    Ok(items)
+}
+
 // The byte at a position of the byte string of a number.
 fn byte_of(number: u32, position: u8) -> u8
     ensures { result ≡ byte_at number position }
@@ -21,34 +38,12 @@ fn byte_of(number: u32, position: u8) -> u8
     ((n * 37 + u64::from(position) * 85 + n / 12) % 256) as u8
 }
 
-// The items of a load over numbers.
-pub(crate) fn numbers(heap: Global, keys: u16) -> Result<Vec<u32>, AllocError>
-    ensures { IfOk result (λ v. Numbered keys v.items) }
-{
-    let mut items = Vec::new(heap);
-    for place in 0..keys {
-        items.push(number_of(place, keys))?;
-    }
-    Ok(items)
-}
-
 // The byte string of a number.
-fn string_of(number: u32) -> ByteString {
-    let len = (number % 12) as u8;
+pub(crate) fn string_of(number: u32) -> ByteString {
+    let len = (number % 12) as usize;
     let mut bytes = [0; 11];
-    for j in 0..len {
-        bytes[j as usize] = byte_of(number, j);
+    for (byte, position) in bytes[..len].iter_mut().zip(0..) {
+        *byte = byte_of(number, position);
     }
-    ByteString::new(&bytes[0..len as usize]).unwrap()
-}
-
-// The items of a load over byte strings.
-pub(crate) fn strings(heap: Global, keys: u16) -> Result<Vec<ByteString>, AllocError>
-    ensures { IfOk result (λ v. vec_len v ≡ keys) }
-{
-    let mut items = Vec::new(heap);
-    for place in 0..keys {
-        items.push(string_of(number_of(place, keys)))?;
-    }
-    Ok(items)
+    ByteString::new(&bytes[..len]).unwrap()
 }

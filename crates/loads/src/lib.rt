@@ -12,10 +12,10 @@ pub mod report;
 pub mod sum;
 mod whole;
 
-pub use figures::Figures;
+pub use figures::{Done, Figures};
 pub use generator::Generator;
-pub use load::{ItemSort, Load, Mode};
-pub use opening::{open, unmade};
+pub use load::{DEFAULT_SEED, ItemSort, Load, Mode};
+pub use opening::open;
 pub use report::Report;
 pub use sum::{mix, mix_answer};
-pub use whole::{Outcome, run};
+pub use whole::run;

@@ -1,24 +1,29 @@
 // The line of a load.
+use crate::figures::{Done, Figures};
 use crate::load::Load;
-use crate::whole::Outcome;
+use machine::Reason;
+use schedule::Keyword;
 use std::fmt;
 
 #[derive(Clone, Copy)]
 pub struct Report {
     pub load: Load,
-    pub outcome: Outcome,
+    pub outcome: Result<Done, Reason>,
 }
 
 impl fmt::Display for Load {
     fn fmt<W: fmt::Write>(&self, f: &mut fmt::Formatter<W>) -> fmt::Result {
-        let scheme = self.scheme.name();
-        let sessions = self.sessions;
-        let cells = self.cells;
-        let sort = self.sort.name();
-        let keys = self.keys;
+        let Load {
+            sessions,
+            cells,
+            keys,
+            ..
+        } = *self;
         write!(
             f,
-            "{scheme} {sessions} sessions {cells} cells {sort} {keys} keys"
+            "{} {sessions} sessions {cells} cells {} {keys} keys",
+            self.scheme.name(),
+            self.sort.name()
         )
     }
 }
@@ -27,24 +32,25 @@ impl fmt::Display for Report {
     fn fmt<W: fmt::Write>(&self, f: &mut fmt::Formatter<W>) -> fmt::Result {
         let load = self.load;
         match self.outcome {
-            Outcome::Refused(why) => {
-                let number = why.code();
-                write!(f, "{load}: refused {number}")
-            }
-            Outcome::Done {
-                figures,
-                held,
-                free,
-            } => {
-                let mode = load.mode.name();
-                let seed = load.seed;
-                let turns = load.turns;
-                let words = figures.words;
-                let operations = figures.operations;
-                let sum = figures.sum;
+            Err(why) => write!(f, "{load}: refused {}", why.code()),
+            Ok(
+                Done {
+                    figures,
+                    held,
+                    free,
+                },
+            ) => {
+                let Load { seed, turns, .. } = load;
+                let Figures {
+                    words,
+                    operations,
+                    sum,
+                    ..
+                } = figures;
                 write!(
                     f,
-                    "{load} {mode} seed {seed} turns {turns}: words {words} operations {operations} sum {sum:016x} held {held} free {free}"
+                    "{load} {} seed {seed} turns {turns}: words {words} operations {operations} sum {sum:016x} held {held} free {free}",
+                    load.mode.name()
                 )
             }
         }

@@ -1,4 +1,6 @@
 pub mod Answers
+pub mod Codes
+pub mod Unmade
 pub mod Words
 pub mod Machine
 pub mod Serial

@@ -10,4 +10,4 @@ pub mod word;
 pub use answer::{Answer, AnswerKind, Reason};
 pub use cell::{Cell, Link, Prev};
 pub use stage::{Goal, Search, Stage};
-pub use word::{Kind, Op, Word};
+pub use word::{Kind, Op, Word, place_of, session_of};

@@ -1,7 +1,10 @@
+ghost use Rattle.std.specs.Prelude.{◌≡◌};
+ghost use Rattle.machine.specs.Machine.{sought};
+
 use crate::cell::Prev;
 
 // What a search is for: to look, to add the fresh cell, to take out, or only to finish a decided delete.
-#[derive(Clone, Copy)]
+#[derive(Clone, Copy, PartialEq, Eq, Debug)]
 pub enum Goal {
     Look { sought: u16 },
     Add { sought: u16, fresh: u8 },
@@ -9,8 +12,22 @@ pub enum Goal {
     Finish { sought: u16 },
 }
 
+impl Goal {
+    // The place of the item that is searched for.
+    pub fn sought(self) -> u16
+        ensures { result ≡ sought self }
+    {
+        match self {
+            Goal::Look { sought }
+            | Goal::Add { sought, .. }
+            | Goal::Take { sought }
+            | Goal::Finish { sought } => sought,
+        }
+    }
+}
+
 // Where a search stands, with the cells that its next steps use.
-#[derive(Clone, Copy)]
+#[derive(Clone, Copy, PartialEq, Eq, Debug)]
 pub enum Search {
     ReadFront,
     ProtectFirst {
@@ -59,7 +76,7 @@ pub enum Search {
 }
 
 // Where a session stands in its operation, with the cells that its next steps use.
-#[derive(Clone, Copy)]
+#[derive(Clone, Copy, PartialEq, Eq, Debug)]
 pub enum Stage {
     Outside,
     PushReadHead {

@@ -1,10 +1,10 @@
-ghost use Rattle.std.specs.Prelude.{◌≡◌, ℕ, ◌<◌};
-ghost use Rattle.machine.specs.Words.{spare_plain, spare_item, spare_tidy, session_of, place_of, for_session, for_item, parsed};
+ghost use Rattle.std.specs.Prelude.{◌≡◌, ℕ, ◌/◌, ◌%◌, ◌^◌, ◌<◌};
+ghost use Rattle.machine.specs.Words.{session_of, place_of, for_session, for_item, parsed};
 
 use crate::answer::Reason;
 
 // What a word begins.
-#[derive(Clone, Copy)]
+#[derive(Clone, Copy, PartialEq, Eq, Debug)]
 pub enum Op {
     Insert { place: u16 },
     Delete { place: u16 },
@@ -13,29 +13,41 @@ pub enum Op {
     Pop,
 }
 
-// What a word asks of a session.
-#[derive(Clone, Copy)]
+// What a word asks of a session. Not an option of a beginning, since a step is asked for too.
+#[derive(Clone, Copy, PartialEq, Eq, Debug)]
 pub enum Kind {
     Step,
     Begin(Op),
 }
 
-#[derive(Clone, Copy)]
+// What a word asks for. Not an option of a session's word, since a tidy is asked for too.
+#[derive(Clone, Copy, PartialEq, Eq, Debug)]
 pub enum Word {
     Tidy,
     Of { session: u8, kind: Kind },
 }
 
-fn session_of(w: u32) -> u8
-    ensures { result ≡ session_of w }
+// So many bits of a word, from one on.
+fn bits<const FROM: u32, const COUNT: u32>(w: u32) -> u32
+    requires from { FROM < 32 }
+    requires count { COUNT < 32 }
+    ensures { result ≡ w / 2 ^ FROM % 2 ^ COUNT }
 {
-    ((w >> 24) & 31) as u8
+    (w >> FROM) % (1 << COUNT)
 }
 
-fn place_of(w: u32) -> u16
+// The session that a word is for.
+pub fn session_of(w: u32) -> u8
+    ensures { result ≡ session_of w }
+{
+    bits::<24, 5>(w) as u8
+}
+
+// The place of the item that a word names.
+pub fn place_of(w: u32) -> u16
     ensures { result ≡ place_of w }
 {
-    (w & 0xffff) as u16
+    bits::<0, 16>(w) as u16
 }
 
 // A word for a session that has to be there, when the spare bits are zero.
@@ -62,86 +74,32 @@ fn for_item(
 ) -> Result<Word, Reason>
     ensures { result ≡ for_item spare session sessions place items op }
 {
-    if spare != 0 {
-        return Err(Reason::SpareBits);
-    }
-    if session >= sessions {
-        return Err(Reason::NoSession);
-    }
+    let word = for_session(spare, session, sessions, Kind::Begin(op))?;
     if place >= items {
         return Err(Reason::NoPlace);
     }
-    Ok(Word::Of {
-        session,
-        kind: Kind::Begin(op),
-    })
-}
-
-fn spare_plain(w: u32) -> u32
-    ensures { result ≡ spare_plain w }
-{
-    w & 0x00ff_ffff
-}
-
-fn spare_item(w: u32) -> u32
-    ensures { result ≡ spare_item w }
-{
-    (w >> 16) & 0xff
-}
-
-fn spare_tidy(w: u32) -> u32
-    ensures { result ≡ spare_tidy w }
-{
-    w & 0x1fff_ffff
+    Ok(word)
 }
 
 impl Word {
+    #[tactic(auto, unfolding(crate::specs::Words::parsed))]
     pub fn parse(w: u32, sessions: u8, items: u16) -> Result<Word, Reason>
         ensures { result ≡ parsed w sessions items }
     {
         let session = session_of(w);
         let place = place_of(w);
-        match w >> 29 {
-            0 => for_session(spare_plain(w), session, sessions, Kind::Step),
-            1 => for_item(
-                spare_item(w),
-                session,
-                sessions,
-                place,
-                items,
-                Op::Insert { place },
-            ),
-            2 => for_item(
-                spare_item(w),
-                session,
-                sessions,
-                place,
-                items,
-                Op::Delete { place },
-            ),
-            3 => for_item(
-                spare_item(w),
-                session,
-                sessions,
-                place,
-                items,
-                Op::Contains { place },
-            ),
-            4 => for_item(
-                spare_item(w),
-                session,
-                sessions,
-                place,
-                items,
-                Op::Push { place },
-            ),
-            5 => for_session(spare_plain(w), session, sessions, Kind::Begin(Op::Pop)),
-            6 => {
-                if spare_tidy(w) != 0 {
-                    return Err(Reason::SpareBits);
-                }
-                Ok(Word::Tidy)
-            }
+        let plain = |kind: Kind| for_session(bits::<0, 24>(w), session, sessions, kind);
+        let item = |op: Op| for_item(bits::<16, 8>(w), session, sessions, place, items, op);
+        // The numbers of the format; an enum between them and the word would be a second table.
+        match bits::<29, 3>(w) {
+            0 => plain(Kind::Step),
+            1 => item(Op::Insert { place }),
+            2 => item(Op::Delete { place }),
+            3 => item(Op::Contains { place }),
+            4 => item(Op::Push { place }),
+            5 => plain(Kind::Begin(Op::Pop)),
+            6 if bits::<0, 29>(w) == 0 => Ok(Word::Tidy),
+            6 => Err(Reason::SpareBits),
             _ => Err(Reason::Kind),
         }
     }

@@ -1,5 +1,5 @@
 -- The code's memory as the machine's: the array of cells as maps from cell numbers, the free stack with its top first.
-use Rattle.std.specs.Prelude.{ℕ, min, Bool, false, List, reverse, None, vec_items, Option, slice_index_or}
+use Rattle.std.specs.Prelude.{ℕ, min, Bool, false, List, None, Option, slice_index_or}
 use Rattle.reclaim.specs.Model.{Model}
 use Rattle.machine.specs.declared.cell.Cell.{Cell}
 use Rattle.machine.specs.declared.cell.Link.{Link}
@@ -21,7 +21,7 @@ places xs c = (slice_index_or xs c no_cell).place
 
 abbrev pub memory_of : {R S : Type 0} → (R → S) → Memory R → machine.Memory S
 memory_of st m =
-    as_memory (st m.reclaimer) m.head m.front (reverse (vec_items m.free.stack)) (links m.cells) (marks m.cells) (places m.cells)
+    as_memory (st m.reclaimer) m.head m.front m.free (links m.cells) (marks m.cells) (places m.cells)
 
 -- nothing linked, every cell free; there are 256 at most
 abbrev pub all_free : {S : Type 0} → Model S → S → machine.Memory S

@@ -7,6 +7,7 @@ use crate::memory::Memory;
 use machine::{Cell, Link, Prev};
 use reclaim::Reclaimer;
 
+// The equality of cells or none, in the word that the machine has for it.
 pub fn same_cell(a: Option<u8>, b: Option<u8>) -> bool
     ensures { result ≡ same a b }
 {
@@ -32,6 +33,7 @@ impl<R: Reclaimer> Memory<R> {
         self.front
     }
 
+    #[tactic(auto, unfolding(crate::specs::Of::links, crate::specs::Of::marks, crate::specs::Of::places))]
     pub fn cell(&self, c: u8) -> Cell
         ensures to { result.link.to ≡ (memory_of R.state self.now).link c }
         ensures marked { result.link.marked ≡ (memory_of R.state self.now).mark c }
@@ -40,6 +42,7 @@ impl<R: Reclaimer> Memory<R> {
         self.cells[c as usize]
     }
 
+    #[tactic(auto, using(crate::proofs::Maps::links_set, crate::proofs::Maps::marks_set, crate::proofs::Maps::places_same))]
     fn set_link(&mut self, c: u8, link: Link)
         ensures { memory_of R.state self.new ≡ with_link (memory_of R.state self.old) c link }
     {
@@ -54,6 +57,7 @@ impl<R: Reclaimer> Memory<R> {
     }
 
     // Where the cell's link goes; its mark stays.
+    #[tactic(auto, using(crate::proofs::Maps::links_set, crate::proofs::Maps::marks_same, crate::proofs::Maps::places_same))]
     fn set_next(&mut self, c: u8, to: Option<u8>)
         ensures { memory_of R.state self.new ≡ relinked R.model (memory_of R.state self.old) (At c) to }
     {
@@ -61,6 +65,7 @@ impl<R: Reclaimer> Memory<R> {
     }
 
     // The cell's mark; where its link goes stays.
+    #[tactic(auto, using(crate::proofs::Maps::links_same, crate::proofs::Maps::marks_set, crate::proofs::Maps::places_same))]
     fn set_mark(&mut self, c: u8, marked: bool)
         ensures { memory_of R.state self.new ≡ with_mark (memory_of R.state self.old) c marked }
     {
@@ -73,6 +78,7 @@ impl<R: Reclaimer> Memory<R> {
         self.set_mark(c, true);
     }
 
+    #[tactic(auto, using(crate::proofs::Maps::links_set, crate::proofs::Maps::marks_set, crate::proofs::Maps::places_set))]
     fn set_cell(&mut self, c: u8, cell: Cell)
         ensures { memory_of R.state self.new ≡ with_cell (memory_of R.state self.old) c cell }
     {
@@ -83,10 +89,7 @@ impl<R: Reclaimer> Memory<R> {
     pub fn fill(&mut self, c: u8, place: u16)
         ensures { memory_of R.state self.new ≡ taken R.model (memory_of R.state self.old) c (memory_of R.state self.old).free place }
     {
-        let link = Link {
-            marked: false,
-            to: None,
-        };
+        let link = Link::default();
         self.set_cell(c, Cell { place, link });
     }
 
@@ -97,7 +100,7 @@ impl<R: Reclaimer> Memory<R> {
         match prev {
             Prev::Front => same_cell(self.front, cur),
             Prev::At(p) => {
-                let Cell { place: _, link } = self.cell(p);
+                let Cell { link, .. } = self.cell(p);
                 !link.marked && same_cell(link.to, cur)
             }
         }

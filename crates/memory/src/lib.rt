@@ -7,10 +7,10 @@ mod cells;
 mod free;
 mod fresh;
 mod memory;
-mod moves;
 mod new;
 mod tidy;
+mod turn;
 
 pub use cells::same_cell;
 pub use memory::Memory;
-pub use moves::{complete, go_on};
+pub use turn::Turn;

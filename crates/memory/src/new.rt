@@ -16,6 +16,7 @@ impl<R: Reclaimer> Memory<R> {
         let Ok(free) = FreeStack::all(heap, cells) else {
             return Err(reclaimer);
         };
+        // Written out: over `Cell::default()` the proof of the empty memory did not close.
         let blank = Cell {
             place: 0,
             link: Link {

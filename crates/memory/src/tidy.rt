@@ -20,7 +20,8 @@ impl<R: Reclaimer> Memory<R> {
         held - self.reclaimer.held_count()
     }
 
-    // Collects until none is answered, frees each cell answered, and says how many they were.
+    // Collects until none is answered, frees each cell answered, and says how many they were. A call over another, so
+    // that an edit of it is refused at its own line.
     pub fn tidy(&mut self) -> u16
         ensures after { memory_of R.state self.new ≡ (tidyings R.model (memory_of R.state self.old)).memory }
         ensures value { result ≡ (tidyings R.model (memory_of R.state self.old)).given }

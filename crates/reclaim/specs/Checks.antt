@@ -2,10 +2,8 @@
 use Rattle.std.specs.Prelude.{ℕ, Bool, cond, ◌&&◌, Ok, Err, Result, nat_le, nat_lt}
 use Rattle.reclaim.specs.declared.refusal.Refusal.{Refusal}
 use Rattle.reclaim.specs.declared.refusal.Refusal.TheVariants.{NoSession, NoSlot, NoCell, AlreadyInside, NotInside, AlreadyHeld}
-use Rattle.reclaim.specs.declared.refusal.Unmade.{Unmade}
 use Rattle.reclaim.specs.declared.unlinked.Unlinked.{Unlinked}
 use Rattle.reclaim.specs.declared.unlinked.Unpaid.{Unpaid}
-use Rattle.reclaim.specs.declared.refusal.Unmade.TheVariants.{Sizes}
 
 abbrev pub check_outside : (session sessions : ℕ) (inside : Bool) → Result (Unit {0}) Refusal
 check_outside session sessions inside = cond (nat_lt session sessions) (cond inside (Err AlreadyInside) (Ok tt)) (Err NoSession)
@@ -31,6 +29,3 @@ check_retire passed debt cells held = cond (nat_lt debt.cell cells) (cond held (
 -- 1 to 8 sessions and 1 to 256 cells
 abbrev pub sizes_fit : (sessions cells : ℕ) → Bool
 sizes_fit sessions cells = nat_le 1 sessions && nat_le sessions 8 && nat_le 1 cells && nat_le cells 256
-
-abbrev pub check_sizes : (sessions cells : ℕ) → Result (Unit {0}) Unmade
-check_sizes sessions cells = cond (sizes_fit sessions cells) (Ok tt) (Err Sizes)

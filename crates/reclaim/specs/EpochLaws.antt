@@ -1,10 +1,10 @@
 -- Epochs are lawful.
 use Rattle.std.specs.Prelude.{◌≡◌, ℕ, zero, suc, ◌+◌, ◌-◌, ◌<◌, ◌≤◌, Bool, true, false, cond, not, ◌&&◌, ltb, ◌⊎◌, List, [], ◌∷◌, ◌++◌, map, get_or, is_some, Some, None, ◌==◌, nat_le, nat_lt, slice_index_or, refl}
 use Rattle.std.proofs.Common.{sym, ap, ◌∙◌, inl, inr, ⊎_elim, arith}
-use Rattle.std.specs.List.{remove}
+use Rattle.std.specs.List.{remove, list_all}
 use Rattle.std.proofs.lemmas.Bool.{cases_eq, cases_Bool, eqb-true, eqb-false, leb-true, le-leb, lt-leb, ltb-true, lt-ltb, le-ltb, and_parts, and_from, both_ways}
 use Rattle.std.proofs.lemmas.List.{length-map}
-use Rattle.reclaim.specs.Cells.{all_pass, has, has_with}
+use Rattle.reclaim.specs.Cells.{has, has_with}
 use Rattle.reclaim.specs.Model.{SameSizes, GoesOn, Gave, GaveNone, Collected, Lawful}
 use Rattle.reclaim.specs.Table.{Fits, cell}
 use Rattle.reclaim.specs.Epochs.{Lag, Aged, LagTable, epochs, scheme, first_age, may_advance, ready, later, older, advance, settle, settled, ripe, without_ripe, gives, within, low, aging, youngest}
@@ -20,7 +20,7 @@ youngest_low n x (y ∷ hs) a =
     let r = youngest_low x.note y hs p.1 in
     omega arith
 
-pub aging_push : (n : ℕ) (hs : List Aged) (h : Aged) → h.note ≤ n → h.note ≤ youngest hs → aging n hs ≡ true → aging n (hs ++ h ∷ []) ≡ true
+aging_push : (n : ℕ) (hs : List Aged) (h : Aged) → h.note ≤ n → h.note ≤ youngest hs → aging n hs ≡ true → aging n (hs ++ h ∷ []) ≡ true
 aging_push n [] h m y a = let z = le-leb h.note n m in grind arith
 aging_push n (x ∷ []) h m y a = let z = le-leb h.note x.note y in grind arith
 aging_push n (x ∷ (k ∷ hs)) h m y a =
@@ -42,9 +42,9 @@ pub aging_tail : (n : ℕ) (x : Aged) (hs : List Aged) → aging n (x ∷ hs) �
 aging_tail n x hs h = let p = and_parts (nat_le x.note n) (aging x.note hs) h in aging_more x.note n hs (leb-true x.note n p.0) p.1
 
 -- the list of a table with one cell more or less
-pub aging_held : (hs ks : List Aged) (h : Aged) → ks ≡ hs ++ h ∷ [] → h.note ≤ youngest hs → aging 2 hs ≡ true → aging 2 ks ≡ true
-aging_held [] ks h e y a = ap (aging 2) e ∙ aging_push 2 [] h y y a
-aging_held (x ∷ hs) ks h e y a = let l = youngest_low 2 x hs a in ap (aging 2) e ∙ aging_push 2 (x ∷ hs) h (omega arith) y a
+pub aging_held : (hs : List Aged) (h : Aged) → h.note ≤ youngest hs → aging 2 hs ≡ true → aging 2 (hs ++ h ∷ []) ≡ true
+aging_held [] h y a = aging_push 2 [] h y y a
+aging_held (x ∷ hs) h y a = let l = youngest_low 2 x hs a in aging_push 2 (x ∷ hs) h (omega arith) y a
 
 aging_without : (n : ℕ) (hs : List Aged) (i : ℕ) → aging n hs ≡ true → aging n (remove hs i) ≡ true
 aging_without n [] zero a = refl
@@ -94,13 +94,13 @@ later_low (Some n) a b =
     let le = leb-true n 1 b in
     le-leb (n + 1) 1 (⊎_elim (λ (e : n ≡ 1). absurd (ne e)) (λ (e : n ≡ 1 → ⊥). omega arith) (cases_eq n 1))
 
-may_at : (ls : List Lag) (t : ℕ) → all_pass may_advance ls ≡ true → may_advance (slice_index_or ls t None) ≡ true
+may_at : (ls : List Lag) (t : ℕ) → list_all may_advance ls ≡ true → may_advance (slice_index_or ls t None) ≡ true
 may_at [] t h = refl
-may_at (l ∷ ls) zero h = (and_parts (may_advance l) (all_pass may_advance ls) h).0
-may_at (l ∷ ls) (suc t) h = may_at ls t (and_parts (may_advance l) (all_pass may_advance ls) h).1
+may_at (l ∷ ls) zero h = (and_parts (may_advance l) (list_all may_advance ls) h).0
+may_at (l ∷ ls) (suc t) h = may_at ls t (and_parts (may_advance l) (list_all may_advance ls) h).1
 
 -- a session inside that lets no advance pass
-held_up : (ls : List Lag) → all_pass may_advance ls ≡ false → (s : ℕ) × (is_some (slice_index_or ls s None) ≡ true)
+held_up : (ls : List Lag) → list_all may_advance ls ≡ false → (s : ℕ) × (is_some (slice_index_or ls s None) ≡ true)
 held_up [] h = absurd (grind arith)
 held_up (None ∷ ls) h = let r = held_up ls h in (suc r.0, r.1)
 held_up (Some n ∷ ls) h = (0, refl)
@@ -129,7 +129,7 @@ calm_then a b c p q = record {
 
 pub calm_advance : (t : LagTable) → Fits scheme t → ready t ≡ true → Calm t (advance t)
 calm_advance t f r =
-    let p = and_parts (nat_lt (first_age t.held) 2) (all_pass may_advance t.places) r in
+    let p = and_parts (nat_lt (first_age t.held) 2) (list_all may_advance t.places) r in
     let some : (s : ℕ) → is_some (slice_index_or (map later t.places) s None) ≡ is_some (slice_index_or t.places s None) =
     λ s. ap is_some (later_reads t.places s) ∙ later_some (slice_index_or t.places s None) in
     record {
@@ -176,30 +176,15 @@ calm_settle (suc n) t f = by (ready t) refl (calm_settle n (advance t))
     by false e k = calm_same t f
 
 first_young : (t : LagTable) → ready t ≡ true → first_age t.held < 2
-first_young t r = ltb-true (first_age t.held) 2 (and_parts (nat_lt (first_age t.held) 2) (all_pass may_advance t.places) r).0
+first_young t r = ltb-true (first_age t.held) 2 (and_parts (nat_lt (first_age t.held) 2) (list_all may_advance t.places) r).0
 
 settle_done : (n : ℕ) (t : LagTable) → 2 - first_age t.held ≤ n → ready (settle n t) ≡ false
-settle_done zero t l = let z = le-ltb (first_age t.held) 2 (omega arith) in ap (λ b. b && all_pass may_advance t.places) z
+settle_done zero t l = let z = le-ltb (first_age t.held) 2 (omega arith) in ap (λ b. b && list_all may_advance t.places) z
 settle_done (suc n) t l = by (ready t) refl (settle_done n (advance t))
   where
     by : (b : Bool) → ready t ≡ b → (2 - first_age (map older t.held) ≤ n → ready (settle n (advance t)) ≡ false) → ready (cond b (settle n (advance t)) t) ≡ false
     by true e k = let y = first_young t e in let o = older_age t.held y in k (omega arith)
     by false e k = e
-
-pub settle_still : (n : ℕ) (t : LagTable) → ready t ≡ false → settle n t ≡ t
-settle_still zero t e = refl
-settle_still (suc n) t e = ap (λ b. cond b (settle n (advance t)) t) e
-
-pub settle_on : (t : LagTable) → ready t ≡ true → settled (advance t) ≡ settled t
-settle_on t r =
-    let k = first_young t r in
-    let o = older_age t.held k in
-    let m : ℕ = 2 - first_age (map older t.held) in
-    let q : 2 - first_age t.held ≡ suc m = omega arith in
-    sym (ap (λ n. settle n t) q ∙ ap (λ b. cond b (settle m (advance t)) t) r)
-
-pub ages_fall : (t : LagTable) → ready t ≡ true → 2 - first_age (map older t.held) < 2 - first_age t.held
-ages_fall t r = let k = first_young t r in let o = older_age t.held k in omega arith
 
 -- a cell of age 2 is within no lag
 ripe_gone : (o : Lag) (age : ℕ) → low o ≡ true → age ≡ 2 → (is_some o && within o age) ≡ false

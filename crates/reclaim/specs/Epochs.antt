@@ -1,7 +1,7 @@
 -- Epochs: a session inside lags behind by the advances since it entered, and a held cell has the age of the advances since it was retired.
 use Rattle.std.specs.Prelude.{◌≡◌, ℕ, zero, suc, ◌+◌, ◌-◌, Bool, true, false, cond, not, ◌&&◌, List, [], ◌∷◌, map, is_some, Some, None, Option, ◌==◌, nat_le, nat_lt, slice_index_or}
+use Rattle.std.specs.List.{list_all}
 use Rattle.reclaim.specs.declared.held.HeldCell.{HeldCell}
-use Rattle.reclaim.specs.Cells.{all_pass}
 use Rattle.reclaim.specs.Model.{Model}
 use Rattle.reclaim.specs.Table.{Table, Scheme, put, with_held, hold, model}
 
@@ -27,7 +27,7 @@ may_advance (Some lag) = not (lag == 1)
 
 -- a cell is held, the oldest has an age below 2, and no session inside has lag 1
 abbrev pub ready : LagTable → Bool
-ready t = nat_lt (first_age t.held) 2 && all_pass may_advance t.places
+ready t = nat_lt (first_age t.held) 2 && list_all may_advance t.places
 
 abbrev pub later : Lag → Lag
 later None = None

@@ -1,5 +1,6 @@
 -- Hazard pointers: a session inside stores cells in its three slots, and a held cell waits while a slot stores it.
-use Rattle.std.specs.Prelude.{◌≡◌, ℕ, ◌<◌, Bool, true, false, ◌||◌, List, [], ◌∷◌, length, get_or, Some, None, Option, ◌==◌, slice_index_or, slice_set}
+use Rattle.std.specs.Prelude.{◌≡◌, ℕ, ◌<◌, Bool, true, false, List, [], ◌∷◌, length, get_or, Some, None, Option, ◌==◌, slice_index_or, slice_set}
+use Rattle.std.specs.List.{list_any}
 use Rattle.reclaim.specs.declared.held.HeldCell.{HeldCell}
 use Rattle.reclaim.specs.declared.hazard.table.Row.{Row}
 use Rattle.reclaim.specs.Cells.{oldest, without, cell_of}
@@ -19,13 +20,11 @@ stores (Some d) c = d == c
 
 -- some slot of a row stores c
 abbrev pub row_stores : List (Option ℕ) → ℕ → Bool
-row_stores [] c = false
-row_stores (o ∷ os) c = stores o c || row_stores os c
+row_stores os c = list_any (λ o. stores o c) os
 
 -- some slot of some row stores c
 abbrev pub rows_store : List Row → ℕ → Bool
-rows_store [] c = false
-rows_store (r ∷ rs) c = row_stores r.slots c || rows_store rs c
+rows_store rs c = list_any (λ (r : Row). row_stores r.slots c) rs
 
 -- no slot of a row stores a cell
 abbrev pub row_blank : List (Option ℕ) → Bool

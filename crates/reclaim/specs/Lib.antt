@@ -1,6 +1,7 @@
 pub mod Model
 pub mod Checks
 pub mod Refusals
+pub mod Schemes
 pub mod Made
 pub mod Cells
 pub mod Table

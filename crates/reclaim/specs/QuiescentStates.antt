@@ -1,7 +1,8 @@
 -- Quiescent states: a held cell waits until every session has left that was inside when it was retired.
 use Rattle.std.specs.Prelude.{◌≡◌, ℕ, Bool, true, false, not, List, map, length, ◌==◌, slice_index_or, slice_set}
+use Rattle.std.specs.List.{list_all}
 use Rattle.reclaim.specs.declared.held.HeldCell.{HeldCell}
-use Rattle.reclaim.specs.Cells.{all_pass, has_with, oldest, without, cell_of}
+use Rattle.reclaim.specs.Cells.{has_with, oldest, without, cell_of}
 use Rattle.reclaim.specs.Model.{Model}
 use Rattle.reclaim.specs.Table.{Table, Scheme, cell, put, with_held, hold, model}
 
@@ -17,7 +18,7 @@ RecordTable = Table Bool (List Bool)
 
 -- the record is not empty
 abbrev pub waits : Waiting → Bool
-waits h = not (all_pass not h.note)
+waits h = not (list_all not h.note)
 
 abbrev pub recorded : ℕ → Waiting → Bool
 recorded s h = slice_index_or h.note s false
@@ -40,7 +41,7 @@ scheme = record {
   inside = is_inside;
   names = λ b i c. b;
   keeps = λ s b users. slice_index_or users s false;
-  good = λ t. InsideStill t.places t.held × (all_pass full t.held ≡ true);
+  good = λ t. InsideStill t.places t.held × (list_all full t.held ≡ true);
   enters = λ t s. put t s true;
   leaves = λ t s. with_held (put t s false) (map (strike s) t.held);
   protects = λ t s i c. t;

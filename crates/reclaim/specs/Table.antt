@@ -1,5 +1,5 @@
 -- What the schemes share: a table with a place for each session and the held cells, oldest first, and the model over it.
-use Rattle.std.specs.Prelude.{◌≡◌, ℕ, ◌≤◌, Bool, true, false, ◌&&◌, List, [], ◌∷◌, ◌++◌, length, replicate, Option, slice_index_or, slice_set}
+use Rattle.std.specs.Prelude.{◌≡◌, ℕ, ◌≤◌, Bool, true, false, cond, ◌&&◌, List, [], ◌∷◌, ◌++◌, length, replicate, Option, nat_lt, slice_index_or, slice_set}
 use Rattle.reclaim.specs.declared.held.HeldCell.{HeldCell}
 use Rattle.reclaim.specs.Cells.{has, has_with, distinct, all_below}
 use Rattle.reclaim.specs.Model.{Model}
@@ -43,6 +43,10 @@ with_held t hs = record { sessions = t.sessions; cells = t.cells; places = t.pla
 -- c is held too, as the newest, with the note n
 abbrev pub hold : {P N : Type 0} → Table P N → ℕ → N → Table P N
 hold t c n = with_held t (t.held ++ record { cell = c; note = n } ∷ [])
+
+-- the held cells after c was retired with the note n: a refused call changes nothing
+abbrev pub held_after : {N : Type 0} → (cells : ℕ) → List (HeldCell N) → (c : ℕ) → N → List (HeldCell N)
+held_after cells hs c n = cond (nat_lt c cells) (cond (has cell hs c) hs (hs ++ record { cell = c; note = n } ∷ [])) hs
 
 -- nobody at or past the number of sessions is inside
 abbrev pub NonePast : {P : Type 0} → (P → Bool) → P → ℕ → List P → Type 0

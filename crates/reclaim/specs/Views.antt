@@ -8,10 +8,10 @@ use Rattle.reclaim.specs.Epochs.{Lag}
 use Rattle.reclaim.specs.Table.{Table}
 
 abbrev pub hazard_table : HazardPointers → Table Row (Unit {0})
-hazard_table x = record { sessions = x.sessions; cells = x.held.cells; places = x.rows; held = vec_items x.held.list }
+hazard_table x = record { sessions = x.held.sizes.sessions; cells = x.held.sizes.cells; places = x.rows; held = vec_items x.held.list }
 
 abbrev pub epoch_table : Epochs → Table Lag ℕ
-epoch_table x = record { sessions = x.sessions; cells = x.held.cells; places = x.lags; held = vec_items x.held.list }
+epoch_table x = record { sessions = x.held.sizes.sessions; cells = x.held.sizes.cells; places = x.lags; held = vec_items x.held.list }
 
 abbrev pub quiescent_table : QuiescentStates → Table Bool (List Bool)
-quiescent_table x = record { sessions = x.sessions; cells = x.held.cells; places = x.inside; held = vec_items x.held.list }
+quiescent_table x = record { sessions = x.held.sizes.sessions; cells = x.held.sizes.cells; places = x.inside; held = vec_items x.held.list }

@@ -3,17 +3,17 @@
 pub mod table;
 
 ghost use Rattle.std.specs.Prelude.{◌≡◌, false};
-ghost use Rattle.reclaim.specs.HazardPointers.{RowTable, hazard, empty_row, stores as stores_cell};
+ghost use Rattle.reclaim.specs.HazardPointers.{RowTable, hazard, empty_row};
 ghost use Rattle.reclaim.specs.Made.{Made};
 ghost use Rattle.reclaim.specs.Table.{new as new_table};
 ghost use Rattle.reclaim.specs.Views.{hazard_table};
 ghost use Rattle.reclaim.specs.HazardLaws.{hazard_lawful};
 ghost use Rattle.std.proofs.Common.{rules};
 
-use crate::checks::{check_inside, check_outside, check_protect, check_sizes};
 use crate::held::Held;
 use crate::reclaimer::Reclaimer;
 use crate::refusal::{Refusal, Unmade};
+use crate::sizes::Sizes;
 use crate::unlinked::{Unlinked, Unpaid};
 use std::alloc::Global;
 use table::{HazardPointers, Row};
@@ -21,16 +21,9 @@ use table::{HazardPointers, Row};
 fn empty_row(inside: bool) -> Row
     ensures { result ≡ empty_row inside }
 {
-    let slots = [None; 3];
-    Row { inside, slots }
-}
-
-fn stores(slot: Option<u8>, cell: u8) -> bool
-    ensures { result ≡ stores_cell slot cell }
-{
-    match slot {
-        Some(stored) => stored == cell,
-        None => false,
+    Row {
+        inside,
+        slots: [None; 3],
     }
 }
 
@@ -39,10 +32,8 @@ impl HazardPointers {
     pub fn new(heap: Global, sessions: u8, cells: u16) -> Result<HazardPointers, Unmade>
         ensures { Made hazard hazard_table (new_table (empty_row false)) sessions cells result }
     {
-        check_sizes(sessions, cells)?;
-        let held = Held::new(heap, cells)?;
+        let held = Held::new(heap, Sizes::new(sessions, cells)?)?;
         Ok(HazardPointers {
-            sessions,
             rows: [empty_row(false); 8],
             held,
         })
@@ -61,43 +52,41 @@ impl Reclaimer for HazardPointers {
     ghost lawful = { hazard_lawful };
 
     fn enter(&mut self, session: u8) -> Result<(), Refusal> {
-        check_outside(session, self.sessions, self.is_inside(session))?;
+        self.held
+            .sizes
+            .check_outside(session, self.is_inside(session))?;
         self.rows[session as usize] = empty_row(true);
         Ok(())
     }
 
     fn leave(&mut self, session: u8) -> Result<(), Refusal> {
-        check_inside(session, self.sessions, self.is_inside(session))?;
+        self.held
+            .sizes
+            .check_inside(session, self.is_inside(session))?;
         self.rows[session as usize] = empty_row(false);
         Ok(())
     }
 
     fn protect(&mut self, session: u8, slot: u8, cell: u8) -> Result<(), Refusal> {
-        check_protect(
-            session,
-            self.sessions,
-            self.is_inside(session),
-            slot,
-            cell,
-            self.held.cells,
-        )?;
+        self.held
+            .sizes
+            .check_protect(session, self.is_inside(session), slot, cell)?;
         self.rows[session as usize].slots[slot as usize] = Some(cell);
         Ok(())
     }
 
     fn retire(&mut self, debt: Unlinked) -> Result<(), Unpaid> {
-        let debt = self.held.check_retire(debt)?;
-        self.held.hold(debt, ());
-        Ok(())
+        self.held.retire(debt, ())
     }
 
+    // Nested loops over rows and slots, left at the first match by the label: a rule of the project.
     fn collect(&mut self) -> Option<u8> {
-        'held: for at in 0..self.held.list.len() {
-            let cell = self.held.list[at].cell;
-            for session in 0..8usize {
-                for slot in 0..3usize {
-                    let stored = self.rows[session].slots[slot];
-                    if stores(stored, cell) {
+        let (rows, held) = (&self.rows, &self.held);
+        'held: for (at, held_cell) in held.list.iter().enumerate() {
+            let cell = held_cell.cell;
+            for row in rows {
+                for slot in &row.slots {
+                    if *slot == Some(cell) {
                         continue 'held;
                     }
                 }
@@ -108,10 +97,9 @@ impl Reclaimer for HazardPointers {
     }
 
     fn is_inside(&self, session: u8) -> bool {
-        if session >= 8 {
-            return false;
-        }
-        self.rows[session as usize].inside
+        self.rows
+            .get(session as usize)
+            .is_some_and(|row| row.inside)
     }
 
     fn is_held(&self, cell: u8) -> bool {
@@ -123,6 +111,6 @@ impl Reclaimer for HazardPointers {
     }
 
     fn sizes(&self) -> (u8, u16) {
-        (self.sessions, self.held.cells)
+        self.held.sizes()
     }
 }

@@ -24,13 +24,14 @@
 //     hazard.collect(); // Some(7)
 #![tactic(auto)]
 
-mod checks;
 mod epoch;
 mod hazard;
 mod held;
 mod quiescent;
 pub mod reclaimer;
 mod refusal;
+mod scheme;
+mod sizes;
 mod unlinked;
 
 pub use epoch::table::Epochs;
@@ -38,4 +39,5 @@ pub use hazard::table::HazardPointers;
 pub use quiescent::table::QuiescentStates;
 pub use reclaimer::Reclaimer;
 pub use refusal::{Refusal, Unmade};
+pub use scheme::{NoScheme, Scheme};
 pub use unlinked::{Unlinked, Unpaid};

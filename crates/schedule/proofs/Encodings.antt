@@ -1,5 +1,5 @@
 -- A word that was put together is read as what it was put together from.
-use Rattle.std.proofs.Common.{◌≡◌, ℕ, ◌+◌, ◌*◌, ◌/◌, ◌%◌, ◌^◌, ◌<◌, Ok, refl, arith, rules}
+use Rattle.std.proofs.Common.{◌≡◌, ℕ, ◌+◌, ◌*◌, ◌/◌, ◌%◌, ◌^◌, ◌<◌, Ok, arith, rules}
 use Rattle.machine.specs.Words.{parsed, session_of, place_of, spare_plain, spare_item}
 use Rattle.schedule.specs.declared.word.WordKind.{WordKind}
 use Rattle.schedule.specs.declared.word.WordKind.TheVariants.{Step, Insert, Delete, Contains, Push, Pop, Tidy}
@@ -25,4 +25,4 @@ parsed_encoded Delete s p sessions items h = let q = parts 2 s p h.1 h.3 in sear
 parsed_encoded Contains s p sessions items h = let q = parts 3 s p h.1 h.3 in search rules
 parsed_encoded Push s p sessions items h = let q = parts 4 s p h.1 h.3 in search rules
 parsed_encoded Pop s p sessions items h = let q = parts 5 s p h.1 (omega arith) in search rules
-parsed_encoded Tidy s p sessions items h = let e = h.0 in let f = h.1 in rw (e, f) refl
+parsed_encoded Tidy s p sessions items h = let e = h.0 in let f = h.1 in search rules

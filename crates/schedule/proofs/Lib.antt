@@ -1,3 +1,5 @@
 pub mod Encodings
+pub mod Keywords
+pub mod Listed
 pub mod Numerals
 pub mod Totals

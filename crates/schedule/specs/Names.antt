@@ -2,8 +2,8 @@
 use Rattle.std.specs.Prelude.{ℕ, List, codes}
 use Rattle.schedule.specs.declared.header.Header.{Header}
 use Rattle.schedule.specs.declared.header.Header.TheVariants.{Reclaimer, Sessions, Cells, Items}
-use Rattle.schedule.specs.declared.scheme.Scheme.{Scheme}
-use Rattle.schedule.specs.declared.scheme.Scheme.TheVariants.{Hazard, Epoch, Quiescent}
+use Rattle.reclaim.specs.declared.scheme.Scheme.{Scheme}
+use Rattle.reclaim.specs.declared.scheme.Scheme.TheVariants.{Hazard, Epoch, Quiescent}
 
 abbrev pub scheme_name : Scheme → List ℕ
 scheme_name Hazard = codes "hazard"

@@ -1,11 +1,12 @@
 -- The words that a schedule names: the number of each kind, its keyword, and the bits of a word. Assumes nothing.
-use Rattle.std.specs.Prelude.{◌≡◌, ℕ, ◌+◌, ◌*◌, ◌%◌, ◌^◌, ◌<◌, List, codes}
+use Rattle.std.specs.Prelude.{◌≡◌, ◌≢◌, ℕ, ◌+◌, ◌*◌, ◌%◌, ◌^◌, ◌<◌, List, codes, Result, Ok, Err}
 use Rattle.machine.specs.declared.word.Op.TheVariants as op
 use Rattle.machine.specs.declared.word.Kind.TheVariants as kind
 use Rattle.machine.specs.declared.word.Word.{Word}
 use Rattle.machine.specs.declared.word.Word.TheVariants as word
 use Rattle.schedule.specs.declared.word.WordKind.{WordKind}
 use Rattle.schedule.specs.declared.word.WordKind.TheVariants.{Step, Insert, Delete, Contains, Push, Pop, Tidy}
+use Rattle.schedule.specs.declared.word.NoWordKind.{NoWordKind}
 
 abbrev pub number_of : WordKind → ℕ
 number_of Step = 0
@@ -15,6 +16,11 @@ number_of Contains = 3
 number_of Push = 4
 number_of Pop = 5
 number_of Tidy = 6
+
+-- the kind of this number, or that there is none
+abbrev pub Numbered : ℕ → Result WordKind NoWordKind → Type 0
+Numbered n (Ok k) = number_of k ≡ n
+Numbered n (Err e) = (k : WordKind) → number_of k ≢ n
 
 abbrev pub keyword : WordKind → List ℕ
 keyword Step = codes "step"

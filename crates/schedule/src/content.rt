@@ -5,7 +5,7 @@ ghost use Rattle.schedule.specs.Counts.{words_of};
 use items::ByteString;
 
 // What one word line gives to the board.
-#[derive(Clone, Copy)]
+#[derive(Clone, Copy, PartialEq, Eq, Debug)]
 pub enum Act {
     Word(u32),
     // so many step words for a session
@@ -20,15 +20,14 @@ impl Act {
         ensures { result ≡ words_of self }
     {
         match self {
-            Act::Word(_) => 1,
-            Act::Steps { session: _, count } => count,
-            Act::Finish { session: _ } => 1,
+            Act::Word(_) | Act::Finish { .. } => 1,
+            Act::Steps { count, .. } => count,
         }
     }
 }
 
 // A word line, with its number in the text.
-#[derive(Clone, Copy)]
+#[derive(Clone, Copy, PartialEq, Eq, Debug)]
 pub struct Line {
     pub number: usize,
     pub act: Act,

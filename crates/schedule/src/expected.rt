@@ -1,8 +1,11 @@
 // What is wrong with a text: what was expected in place of what stands there.
 use crate::header::Header;
+use crate::keyword::{Keyword, Names};
+use crate::scheme::Scheme;
+use std::error::Error;
 use std::fmt;
 
-#[derive(Clone, Copy)]
+#[derive(Clone, Copy, PartialEq, Eq, Debug)]
 pub enum Expected {
     Utf8,
     // a header line or a word line
@@ -24,31 +27,13 @@ pub enum Expected {
     FewerWords { most: u32 },
 }
 
-fn about_header<W: fmt::Write>(expected: Expected, f: &mut fmt::Formatter<W>) -> fmt::Result {
-    match expected {
-        Expected::Header(header) => {
-            let name = header.name();
-            write!(f, "the header line '{name}' before the first word")
-        }
-        Expected::HeaderOnce(header) => {
-            let name = header.name();
-            write!(f, "the header line '{name}' only once")
-        }
-        Expected::HeaderFirst(header) => {
-            let name = header.name();
-            write!(f, "no header line '{name}' after a word")
-        }
-        _ => f.write_str("a header line"),
-    }
-}
-
 impl fmt::Display for Expected {
     fn fmt<W: fmt::Write>(&self, f: &mut fmt::Formatter<W>) -> fmt::Result {
         match *self {
             Expected::Utf8 => f.write_str("text in UTF-8"),
             Expected::Name => f.write_str("a header line or a word line"),
             Expected::Number { most } => write!(f, "a number from 0 to {most}"),
-            Expected::Scheme => f.write_str("hazard, epoch or quiescent"),
+            Expected::Scheme => write!(f, "{}", Names { all: Scheme::all() }),
             Expected::ItemSort => f.write_str("numbers or bytes"),
             Expected::ByteString => f.write_str(
                 "a byte string: quoted printable ASCII, or x and pairs of hexadecimal digits",
@@ -59,14 +44,26 @@ impl fmt::Display for Expected {
                 "a space, a tab or the end of the line after the closing quote",
             ),
             Expected::EndOfLine => f.write_str("the end of the line"),
+            Expected::Header(header) => {
+                write!(
+                    f,
+                    "the header line '{}' before the first word",
+                    header.name()
+                )
+            }
+            Expected::HeaderOnce(header) => {
+                write!(f, "the header line '{}' only once", header.name())
+            }
+            Expected::HeaderFirst(header) => {
+                write!(f, "no header line '{}' after a word", header.name())
+            }
             Expected::FewerWords { most } => write!(f, "at most {most} words in all"),
-            about => about_header(about, f),
         }
     }
 }
 
 // Why a text gave no schedule.
-#[derive(Clone, Copy)]
+#[derive(Clone, Copy, PartialEq, Eq, Debug)]
 pub enum Unread {
     // the first bad line, counted from 1
     Bad { line: usize, expected: Expected },
@@ -84,3 +81,5 @@ impl fmt::Display for Unread {
         }
     }
 }
+
+impl Error for Unread {}

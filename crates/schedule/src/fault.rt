@@ -1,11 +1,21 @@
-// Why a line could not be taken.
-use crate::expected::Expected;
+// Why a line could not be taken. Not an option of what was expected, since memory can be wanting too.
+use crate::expected::{Expected, Unread};
 use std::alloc::{AllocError, AllocFailed};
 
-#[derive(Clone, Copy)]
+#[derive(Clone, Copy, PartialEq, Eq, Debug)]
 pub(crate) enum Fault {
     Bad(Expected),
     Memory,
+}
+
+impl Fault {
+    // The fault as that of a line of the text.
+    pub(crate) fn at(self, line: usize) -> Unread {
+        match self {
+            Fault::Bad(expected) => Unread::Bad { line, expected },
+            Fault::Memory => Unread::Memory,
+        }
+    }
 }
 
 impl From<Expected> for Fault {

@@ -1,9 +1,9 @@
 // The four header lines by name.
-ghost use Rattle.std.specs.Prelude.{◌≡◌, MatchOption, ◌≢◌};
-ghost use Rattle.schedule.specs.declared.header.Header.{Header as Headers};
 ghost use Rattle.schedule.specs.Names.{header_name};
 
-#[derive(Clone, Copy)]
+use crate::keyword::Keyword;
+
+#[derive(Clone, Copy, PartialEq, Eq, Debug)]
 pub enum Header {
     Reclaimer,
     Sessions,
@@ -11,32 +11,25 @@ pub enum Header {
     Items,
 }
 
-impl Header {
-    pub fn name(self) -> &'static str
-        ensures { result.now ≡ header_name self }
-    {
+impl Keyword for Header {
+    ghost spelled = { header_name };
+
+    #[tactic(auto, using(crate::proofs::Listed::headers))]
+    fn all() -> &'static [Header] {
+        &[
+            Header::Reclaimer,
+            Header::Sessions,
+            Header::Cells,
+            Header::Items,
+        ]
+    }
+
+    fn name(self) -> &'static str {
         match self {
             Header::Reclaimer => "reclaimer",
             Header::Sessions => "sessions",
             Header::Cells => "cells",
             Header::Items => "items",
-        }
-    }
-
-    // The header of this name, if it is one of the four.
-    pub fn named(name: &str) -> Option<Header>
-        ensures { MatchOption result ((h : Headers) → name.now ≢ header_name h) (λ h. name.now ≡ header_name h) }
-    {
-        if name == "reclaimer" {
-            Some(Header::Reclaimer)
-        } else if name == "sessions" {
-            Some(Header::Sessions)
-        } else if name == "cells" {
-            Some(Header::Cells)
-        } else if name == "items" {
-            Some(Header::Items)
-        } else {
-            None
         }
     }
 }

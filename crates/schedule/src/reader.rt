@@ -1,11 +1,13 @@
 // The reader: takes a text line by line and puts the schedule together.
-ghost use Rattle.std.specs.Prelude.{◌≡◌, ◌≤◌, IfOk};
-ghost use Rattle.schedule.specs.Counts.{total_words, Allowed};
+ghost use Rattle.std.specs.Prelude.{IfOk};
+ghost use Rattle.schedule.specs.Counts.{Allowed};
 
 use crate::content::{Act, Items, Line};
 use crate::expected::{Expected, Unread};
 use crate::fault::Fault;
 use crate::header::Header;
+use crate::keyword::Keyword;
+use crate::lines::Lines;
 use crate::number::{decimal, raw_word};
 use crate::schedule::Schedule;
 use crate::scheme::Scheme;
@@ -14,8 +16,6 @@ use crate::token::{Tokens, end, number, session, sixteen_bits};
 use crate::word::{WordKind, encode};
 use items::ByteString;
 use std::alloc::Global;
-
-const MOST_WORDS: u32 = 10_000_000;
 
 const MOST_STEPS: u32 = 1_000_000;
 
@@ -31,38 +31,26 @@ struct Draft {
     items: Option<Items>,
     labels: Vec<String>,
     too_long: bool,
-    lines: Vec<Line>,
-    words: u32,
-    ghost counted: { words ≡ total_words lines.items },
-    ghost few: { words ≤ 10000000 },
+    lines: Lines,
 }
 
 fn scheme(tokens: &mut Tokens<'_>) -> Result<Scheme, Expected> {
-    let Some(token) = tokens.next()? else {
-        return Err(Expected::Scheme);
-    };
-    match Scheme::named(token) {
-        Some(scheme) => Ok(scheme),
-        None => Err(Expected::Scheme),
-    }
+    tokens
+        .next()?
+        .and_then(Scheme::named)
+        .ok_or(Expected::Scheme)
 }
 
 // The word of a kind, with the session and the place that the kind has.
 fn word(kind: WordKind, tokens: &mut Tokens<'_>) -> Result<Act, Expected>
     ensures { IfOk result Allowed }
 {
-    match kind {
-        WordKind::Tidy => Ok(Act::Word(encode(kind, 0, 0))),
-        WordKind::Step | WordKind::Pop => {
-            let session = session(tokens)?;
-            Ok(Act::Word(encode(kind, session, 0)))
-        }
-        _ => {
-            let session = session(tokens)?;
-            let place = sixteen_bits(tokens)?;
-            Ok(Act::Word(encode(kind, session, place)))
-        }
-    }
+    let (session, place) = match kind {
+        WordKind::Tidy => (0, 0),
+        WordKind::Step | WordKind::Pop => (session(tokens)?, 0),
+        _ => (session(tokens)?, sixteen_bits(tokens)?),
+    };
+    Ok(Act::Word(encode(kind, session, place)))
 }
 
 // A word line by its first token.
@@ -72,23 +60,33 @@ fn act(name: &str, tokens: &mut Tokens<'_>) -> Result<Act, Expected>
     if let Some(kind) = WordKind::named(name) {
         return word(kind, tokens);
     }
-    if name == "steps" {
-        let session = session(tokens)?;
-        let count = number(tokens, MOST_STEPS)?;
-        return Ok(Act::Steps { session, count });
+    match name {
+        "steps" => {
+            let session = session(tokens)?;
+            let count = number(tokens, MOST_STEPS)?;
+            Ok(Act::Steps { session, count })
+        }
+        "finish" => {
+            let session = session(tokens)?;
+            Ok(Act::Finish { session })
+        }
+        _ if name.starts_with("0x") => {
+            let word = raw_word(name).ok_or(Expected::RawWord)?;
+            Ok(Act::Word(word))
+        }
+        _ => Err(Expected::Name),
     }
-    if name == "finish" {
-        return Ok(Act::Finish {
-            session: session(tokens)?,
-        });
-    }
-    if !name.starts_with("0x") {
-        return Err(Expected::Name);
-    }
-    match raw_word(name) {
-        Some(word) => Ok(Act::Word(word)),
-        None => Err(Expected::RawWord),
-    }
+}
+
+fn number_item(_heap: Global, token: &str) -> Result<Option<u32>, Fault> {
+    let number = decimal(token, u32::MAX).ok_or(Expected::Number { most: u32::MAX })?;
+    Ok(Some(number))
+}
+
+// A byte string, or none where it is too long.
+fn string_item(heap: Global, token: &str) -> Result<Option<ByteString>, Fault> {
+    let bytes = bytes_of(heap, token)?;
+    Ok(ByteString::new(bytes.as_slice()).ok())
 }
 
 impl Draft {
@@ -102,23 +100,7 @@ impl Draft {
             items: None,
             labels: Vec::new(heap),
             too_long: false,
-            lines: Vec::new(heap),
-            words: 0,
-        }
-    }
-
-    // The first header line that has not come yet.
-    fn missing(&self) -> Option<Header> {
-        if self.reclaimer.is_none() {
-            Some(Header::Reclaimer)
-        } else if self.sessions.is_none() {
-            Some(Header::Sessions)
-        } else if self.cells.is_none() {
-            Some(Header::Cells)
-        } else if self.items.is_none() {
-            Some(Header::Items)
-        } else {
-            None
+            lines: Lines::new(heap),
         }
     }
 
@@ -131,50 +113,40 @@ impl Draft {
         }
     }
 
-    fn label(&mut self, token: &str) -> Result<(), Fault> {
-        let text = String::from_str(self.heap, token)?;
-        self.labels.push(text)?;
-        Ok(())
+    // The first header line that has not come yet.
+    fn missing(&self) -> Option<Header> {
+        Header::all()
+            .iter()
+            .copied()
+            .find(|header| !self.has(*header))
     }
 
-    fn numbers(&mut self, tokens: &mut Tokens<'_>) -> Result<Items, Fault> {
-        let mut numbers = Vec::new(self.heap);
+    // The items that the rest of the line writes. One that is too long is only noted, so that the rest of the text is still read.
+    fn listed<T: Drop, F: Fn(Global, &str) -> Result<Option<T>, Fault>>(
+        &mut self,
+        tokens: &mut Tokens<'_>,
+        item: F,
+    ) -> Result<Vec<T>, Fault>
+        requires { F.IsAlwaysCallable item }
+    {
+        let mut items = Vec::new(self.heap);
         while let Some(token) = tokens.next()? {
-            let Some(n) = decimal(token, u32::MAX) else {
-                return Err(Fault::Bad(Expected::Number { most: u32::MAX }));
-            };
-            numbers.push(n)?;
-            self.label(token)?;
-        }
-        Ok(Items::Numbers(numbers))
-    }
-
-    // Byte strings; one that is too long is only noted, so that the rest of the text is still read.
-    fn strings(&mut self, tokens: &mut Tokens<'_>) -> Result<Items, Fault> {
-        let mut strings = Vec::new(self.heap);
-        while let Some(token) = tokens.next()? {
-            let bytes = bytes_of(self.heap, token)?;
-            match ByteString::new(bytes.as_slice()) {
-                Ok(string) => {
-                    strings.push(string)?;
-                    self.label(token)?;
+            match item(self.heap, token)? {
+                Some(item) => {
+                    items.push(item)?;
+                    self.labels.push(String::from_str(self.heap, token)?)?;
                 }
-                Err(_) => self.too_long = true,
+                None => self.too_long = true,
             }
         }
-        Ok(Items::Bytes(strings))
+        Ok(items)
     }
 
     fn item_list(&mut self, tokens: &mut Tokens<'_>) -> Result<Items, Fault> {
-        let Some(sort) = tokens.next()? else {
-            return Err(Fault::Bad(Expected::ItemSort));
-        };
-        if sort == "numbers" {
-            self.numbers(tokens)
-        } else if sort == "bytes" {
-            self.strings(tokens)
-        } else {
-            Err(Fault::Bad(Expected::ItemSort))
+        match tokens.next()? {
+            Some("numbers") => Ok(Items::Numbers(self.listed(tokens, number_item)?)),
+            Some("bytes") => Ok(Items::Bytes(self.listed(tokens, string_item)?)),
+            _ => Err(Fault::Bad(Expected::ItemSort)),
         }
     }
 
@@ -191,8 +163,7 @@ impl Draft {
             Header::Cells => self.cells = Some(sixteen_bits(tokens)?),
             Header::Items => self.items = Some(self.item_list(tokens)?),
         }
-        end(tokens)?;
-        Ok(())
+        Ok(end(tokens)?)
     }
 
     fn word_line(&mut self, name: &str, tokens: &mut Tokens<'_>) -> Result<(), Fault> {
@@ -201,21 +172,12 @@ impl Draft {
         if let Some(header) = self.missing() {
             return Err(Fault::Bad(Expected::Header(header)));
         }
-        if act.words() > MOST_WORDS - self.words {
-            return Err(Fault::Bad(Expected::FewerWords { most: MOST_WORDS }));
-        }
-        self.lines.push(Line {
-            number: self.number,
-            act,
-        })?;
-        self.words += act.words();
-        Ok(())
+        let number = self.number;
+        self.lines.push(Line { number, act })
     }
 
     fn line(&mut self, bytes: &[u8]) -> Result<(), Fault> {
-        let Ok(line) = std::str::from_utf8(bytes) else {
-            return Err(Fault::Bad(Expected::Utf8));
-        };
+        let line = std::str::from_utf8(bytes).map_err(|_| Expected::Utf8)?;
         let mut tokens = Tokens::of(line);
         let Some(name) = tokens.next()? else {
             return Ok(());
@@ -229,21 +191,13 @@ impl Draft {
     // Takes the next line of the text.
     fn take(&mut self, bytes: &[u8]) -> Result<(), Unread> {
         self.number = self.number.saturating_add(1);
-        match self.line(bytes) {
-            Ok(()) => Ok(()),
-            Err(Fault::Bad(expected)) => Err(Unread::Bad {
-                line: self.number,
-                expected,
-            }),
-            Err(Fault::Memory) => Err(Unread::Memory),
-        }
+        let number = self.number;
+        self.line(bytes).map_err(|fault| fault.at(number))
     }
 
     // The schedule, once all lines have been taken.
     fn done(self) -> Result<Schedule, Unread> {
-        let missing = self.missing().unwrap_or(Header::Items);
         let Draft {
-            heap: _,
             number,
             reclaimer,
             sessions,
@@ -252,16 +206,13 @@ impl Draft {
             labels,
             too_long,
             lines,
-            words,
+            ..
         } = self;
-        let (Some(reclaimer), Some(sessions), Some(cells), Some(items)) = (
-            reclaimer, sessions, cells, items,
-        ) else {
-            return Err(Unread::Bad {
-                line: number.saturating_add(1),
-                expected: Expected::Header(missing),
-            });
-        };
+        let lacks = |header| Fault::Bad(Expected::Header(header)).at(number.saturating_add(1));
+        let reclaimer = reclaimer.ok_or(lacks(Header::Reclaimer))?;
+        let sessions = sessions.ok_or(lacks(Header::Sessions))?;
+        let cells = cells.ok_or(lacks(Header::Cells))?;
+        let items = items.ok_or(lacks(Header::Items))?;
         if too_long {
             return Err(Unread::TooLong);
         }
@@ -272,15 +223,14 @@ impl Draft {
             items,
             labels,
             lines,
-            words,
         })
     }
 }
 
-// The line without the CR that stands before its LF.
-fn without_return(line: &[u8]) -> &[u8] {
+// A line without its LF and a CR before that. A CR at the end of a text without LF stays.
+fn without_end(line: &[u8]) -> &[u8] {
     match line {
-        [front @ .., b'\r'] => front,
+        [front @ .., b'\r', b'\n'] | [front @ .., b'\n'] => front,
         _ => line,
     }
 }
@@ -288,15 +238,8 @@ fn without_return(line: &[u8]) -> &[u8] {
 // Reads a text, or says which line is the first bad one and what was expected there.
 pub fn read(heap: Global, text: &[u8]) -> Result<Schedule, Unread> {
     let mut draft = Draft::new(heap);
-    let mut start = 0;
-    for (i, b) in text.iter().enumerate() {
-        if *b == b'\n' {
-            draft.take(without_return(&text[start..i]))?;
-            start = i + 1;
-        }
-    }
-    if start < text.len() {
-        draft.take(&text[start..])?;
+    for line in text.split_inclusive(|b| *b == b'\n') {
+        draft.take(without_end(line))?;
     }
     draft.done()
 }

@@ -1,8 +1,6 @@
 // What a schedule says.
-ghost use Rattle.std.specs.Prelude.{◌≡◌, ◌≤◌};
-ghost use Rattle.schedule.specs.Counts.{total_words};
-
-use crate::content::{Items, Line};
+use crate::content::Items;
+use crate::lines::Lines;
 use crate::scheme::Scheme;
 
 #[derive(Drop)]
@@ -11,11 +9,7 @@ pub struct Schedule {
     pub sessions: u16,
     pub cells: u16,
     pub items: Items,
-    // each item as the text writes it
+    // each item as the text writes it, beside the items, since a board takes these alone as one slice
     pub labels: Vec<String>,
-    pub lines: Vec<Line>,
-    // what the lines count for together
-    pub words: u32,
-    ghost counted: { words ≡ total_words lines.items },
-    ghost few: { words ≤ 10000000 },
+    pub lines: Lines,
 }

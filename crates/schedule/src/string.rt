@@ -6,40 +6,31 @@ use std::alloc::Global;
 
 // The bytes between two quotes: printable ASCII without quotes.
 fn quoted(heap: Global, inner: &[u8]) -> Result<Vec<u8>, Fault> {
-    let mut bytes = Vec::new(heap);
-    for b in inner {
-        if *b < b' ' || *b > b'~' || *b == b'"' {
-            return Err(Fault::Bad(Expected::ByteString));
-        }
-        bytes.push(*b)?;
+    if !inner
+        .iter()
+        .all(|b| matches!(*b, b' '..=b'!' | b'#'..=b'~'))
+    {
+        return Err(Fault::Bad(Expected::ByteString));
     }
-    Ok(bytes)
+    Ok(inner.to_vec(heap)?)
 }
 
-// The bytes that pairs of hexadecimal digits write, the high digit first.
-fn pairs(heap: Global, digits: &[u8]) -> Result<Vec<u8>, Fault> {
-    let mut bytes = Vec::new(heap);
-    for pair in digits.chunks(2) {
-        let [first, second] = pair else {
-            return Err(Fault::Bad(Expected::ByteString));
-        };
-        let (Some(high), Some(low)) = (hex_digit(*first), hex_digit(*second)) else {
-            return Err(Fault::Bad(Expected::ByteString));
-        };
-        bytes.push(high * 16 + low)?;
-    }
-    Ok(bytes)
+// The byte that two hexadecimal digits write, the high digit first.
+fn pair(digits: &[u8]) -> Option<u8> {
+    let [high, low] = digits else {
+        return None;
+    };
+    Some(hex_digit(*high)? * 16 + hex_digit(*low)?)
 }
 
-// The bytes that a token writes, quoted or in hexadecimal.
+// The bytes that a token writes, quoted or as pairs of hexadecimal digits.
 pub(crate) fn bytes_of(heap: Global, token: &str) -> Result<Vec<u8>, Fault> {
-    let text = token.as_bytes();
-    match text.split_first() {
-        Some((b'x', digits)) => pairs(heap, digits),
-        Some((b'"', rest)) => match rest.split_last() {
-            Some((b'"', inner)) => quoted(heap, inner),
-            _ => Err(Fault::Bad(Expected::ByteString)),
-        },
+    match token.as_bytes() {
+        [b'x', digits @ ..] => digits
+            .chunks(2)
+            .map(|digits| pair(digits).ok_or(Fault::Bad(Expected::ByteString)))
+            .try_collect(heap),
+        [b'"', inner @ .., b'"'] => quoted(heap, inner),
         _ => Err(Fault::Bad(Expected::ByteString)),
     }
 }

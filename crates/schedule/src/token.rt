@@ -1,66 +1,62 @@
 // The tokens of a line.
-ghost use Rattle.std.specs.Prelude.{◌≡◌, ℕ, ◌<◌, ◌≤◌, length, IfOk, OnSome};
+ghost use Rattle.std.specs.Prelude.{◌≡◌, ℕ, ◌-◌, ◌<◌, ◌≤◌, length, drop, IfOk, OnSome};
 
 use crate::expected::Expected;
 use crate::number::decimal;
-use crate::scan::{Stop, find};
 
-// The end of the quoted token that starts at a place, past its closing quote.
-fn quoted_end(line: &[u8], start: usize) -> Result<usize, Expected>
-    requires { start < length line.now }
-    ensures { IfOk result (λ end. (start < end) × (end ≤ length line.now)) }
-{
-    let close = find(line, start + 1, Stop::Quote);
-    if close >= line.len() {
-        return Err(Expected::ClosingQuote);
-    }
-    let end = close + 1;
-    if end < line.len() && !Stop::Gap.is_at(line[end]) {
-        return Err(Expected::GapAfterQuote);
-    }
-    Ok(end)
+// Whether a token ends before this byte: a blank, or the start of a comment.
+fn ends_token(byte: u8) -> bool {
+    matches!(byte, b' ' | b'\t' | b'#')
 }
 
-// The end of the token that starts at a place.
-fn token_end(line: &[u8], start: usize) -> Result<usize, Expected>
-    requires { start < length line.now }
-    ensures { IfOk result (λ end. (start < end) × (end ≤ length line.now)) }
+// The length of the token that a line starts with.
+fn token_len(line: &[u8]) -> Result<usize, Expected>
+    requires { 0 < length line.now }
+    ensures { IfOk result (λ n. (0 < n) × (n ≤ length line.now)) }
 {
-    if line[start] == b'"' {
-        quoted_end(line, start)
-    } else {
-        Ok(find(line, start + 1, Stop::Gap))
+    if let [b'"', inner @ ..] = line {
+        let close = inner
+            .iter()
+            .position(|b| *b == b'"')
+            .ok_or(Expected::ClosingQuote)?;
+        return match inner.get(close + 1) {
+            Some(after) if !ends_token(*after) => Err(Expected::GapAfterQuote),
+            _ => Ok(close + 2),
+        };
     }
+    let rest = &line[1..];
+    Ok(
+        1 + rest
+            .iter()
+            .position(|b| ends_token(*b))
+            .unwrap_or(rest.len()),
+    )
 }
 
-// A line that is being cut into tokens, and how far that is.
+// What is left of a line that is being cut into tokens.
 #[derive(Drop)]
 pub(crate) struct Tokens<'a> {
-    line: &'a str,
-    at: usize,
+    rest: &'a str,
 }
 
 impl<'a> Tokens<'a> {
     pub(crate) fn of(line: &'a str) -> Tokens<'a> {
-        Tokens { line, at: 0 }
+        Tokens { rest: line }
     }
 
     // The next token, or none where the line ends or a comment starts.
     pub(crate) fn next(&mut self) -> Result<Option<&'a str>, Expected>
-        ensures same { self.new.line.now ≡ self.old.line.now }
-        ensures onward { IfOk result (λ t. OnSome t ((self.old.at < self.new.at) × (self.new.at ≤ length self.new.line.now))) }
+        ensures same { self.new.rest.now ≡ drop (length self.old.rest.now - length self.new.rest.now) self.old.rest.now }
+        ensures onward { IfOk result (λ t. OnSome t (length self.new.rest.now < length self.old.rest.now)) }
     {
-        let bytes = self.line.as_bytes();
-        let start = find(bytes, self.at, Stop::Start);
-        if start >= bytes.len() || bytes[start] == b'#' {
+        let line = self.rest.trim_start_matches([' ', '\t']);
+        if line.is_empty() || line.starts_with('#') {
             return Ok(None);
         }
-        let end = token_end(bytes, start)?;
-        self.at = end;
-        match self.line.get(start..end) {
-            Some(token) => Ok(Some(token)),
-            None => Err(Expected::Utf8),
-        }
+        let len = token_len(line.as_bytes())?;
+        let (token, rest) = line.split_at_checked(len).ok_or(Expected::Utf8)?;
+        self.rest = rest;
+        Ok(Some(token))
     }
 }
 
@@ -68,27 +64,22 @@ impl<'a> Tokens<'a> {
 pub(crate) fn number(tokens: &mut Tokens<'_>, most: u32) -> Result<u32, Expected>
     ensures { IfOk result (λ n. n ≤ most) }
 {
-    let Some(token) = tokens.next()? else {
-        return Err(Expected::Number { most });
-    };
-    match decimal(token, most) {
-        Some(n) => Ok(n),
-        None => Err(Expected::Number { most }),
-    }
+    tokens
+        .next()?
+        .and_then(|token| decimal(token, most))
+        .ok_or(Expected::Number { most })
 }
 
 // The next token as a session: five bits.
 pub(crate) fn session(tokens: &mut Tokens<'_>) -> Result<u8, Expected>
     ensures { IfOk result (λ n. n < 32) }
 {
-    let n = number(tokens, 31)?;
-    Ok(n as u8)
+    Ok(number(tokens, 31)? as u8)
 }
 
 // Sixteen bits: a place, or a number of sessions or cells.
 pub(crate) fn sixteen_bits(tokens: &mut Tokens<'_>) -> Result<u16, Expected> {
-    let n = number(tokens, 65535)?;
-    Ok(n as u16)
+    Ok(number(tokens, 65535)? as u16)
 }
 
 // Refuses a further token.

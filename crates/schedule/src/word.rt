@@ -1,39 +1,71 @@
 // The words of a schedule by name, and the number of each.
-ghost use Rattle.std.specs.Prelude.{◌≡◌, ℕ, ◌≤◌, Ok, MatchOption, ◌≢◌};
+ghost use Rattle.std.specs.Prelude.{◌≡◌, ℕ, Ok};
 ghost use Rattle.machine.specs.Words.{parsed};
-ghost use Rattle.schedule.specs.declared.word.WordKind.{WordKind as Kinds};
-ghost use Rattle.schedule.specs.Words.{number_of, keyword, encoded, Fitting, meant};
+ghost use Rattle.schedule.specs.Words.{number_of, Numbered, keyword, encoded, Fitting, meant};
+
+use crate::keyword::Keyword;
 
 // What a word asks for, with the number that the word carries in its top bits.
-#[derive(Clone, Copy)]
+#[derive(Clone, Copy, PartialEq, Eq, Debug)]
 pub enum WordKind {
-    Step,
-    Insert,
-    Delete,
-    Contains,
-    Push,
-    Pop,
-    Tidy,
+    Step = 0,
+    Insert = 1,
+    Delete = 2,
+    Contains = 3,
+    Push = 4,
+    Pop = 5,
+    Tidy = 6,
 }
 
 impl WordKind {
     pub fn number(self) -> u8
         ensures { result ≡ number_of self }
     {
-        match self {
-            WordKind::Step => 0,
-            WordKind::Insert => 1,
-            WordKind::Delete => 2,
-            WordKind::Contains => 3,
-            WordKind::Push => 4,
-            WordKind::Pop => 5,
-            WordKind::Tidy => 6,
-        }
+        self as u8
+    }
+}
+
+// A number that stands for no kind of word.
+#[derive(Clone, Copy, PartialEq, Eq, Debug)]
+pub struct NoWordKind;
+
+// A table, since no cast makes a case of a number.
+impl TryFrom<u8> for WordKind {
+    type Error = NoWordKind;
+
+    ghost try_from_gives = { Numbered };
+
+    fn try_from(number: u8) -> Result<WordKind, NoWordKind> {
+        Ok(match number {
+            0 => WordKind::Step,
+            1 => WordKind::Insert,
+            2 => WordKind::Delete,
+            3 => WordKind::Contains,
+            4 => WordKind::Push,
+            5 => WordKind::Pop,
+            6 => WordKind::Tidy,
+            _ => return Err(NoWordKind),
+        })
+    }
+}
+
+impl Keyword for WordKind {
+    ghost spelled = { keyword };
+
+    #[tactic(auto, using(crate::proofs::Listed::kinds))]
+    fn all() -> &'static [WordKind] {
+        &[
+            WordKind::Step,
+            WordKind::Insert,
+            WordKind::Delete,
+            WordKind::Contains,
+            WordKind::Push,
+            WordKind::Pop,
+            WordKind::Tidy,
+        ]
     }
 
-    pub fn name(self) -> &'static str
-        ensures { result.now ≡ keyword self }
-    {
+    fn name(self) -> &'static str {
         match self {
             WordKind::Step => "step",
             WordKind::Insert => "insert",
@@ -44,32 +76,10 @@ impl WordKind {
             WordKind::Tidy => "tidy",
         }
     }
-
-    // The kind of this name, if it is one of the seven.
-    pub fn named(name: &str) -> Option<WordKind>
-        ensures { MatchOption result ((k : Kinds) → name.now ≢ keyword k) (λ k. name.now ≡ keyword k) }
-    {
-        if name == "step" {
-            Some(WordKind::Step)
-        } else if name == "insert" {
-            Some(WordKind::Insert)
-        } else if name == "delete" {
-            Some(WordKind::Delete)
-        } else if name == "contains" {
-            Some(WordKind::Contains)
-        } else if name == "push" {
-            Some(WordKind::Push)
-        } else if name == "pop" {
-            Some(WordKind::Pop)
-        } else if name == "tidy" {
-            Some(WordKind::Tidy)
-        } else {
-            None
-        }
-    }
 }
 
 // The word of a kind for a session, of which five bits count, and an item's place.
+#[tactic(auto, using(crate::proofs::Encodings::parsed_encoded))]
 pub fn encode(kind: WordKind, session: u8, place: u16) -> u32
     ensures number { result ≡ encoded kind session place }
     ensures back { (sessions items : ℕ) → Fitting kind session place sessions items → parsed result sessions items ≡ Ok (meant kind session place) }

@@ -12,13 +12,11 @@ pub fn retire_cell<R: Reclaimer>(reclaimer: &mut R, cell: u8) -> bool
     ensures answer { result ≡ is_some (owed R.model (R.state reclaimer.old) cell) }
     ensures after { R.state reclaimer.new ≡ after_retire R.model (R.state reclaimer.old) cell }
 {
-    match Unlinked::of(reclaimer, cell) {
-        Some(debt) => {
-            reclaimer.retire(debt).unwrap();
-            true
-        }
-        None => false,
-    }
+    let Some(debt) = Unlinked::of(reclaimer, cell) else {
+        return false;
+    };
+    reclaimer.retire(debt).unwrap();
+    true
 }
 
 // Makes a token beside one reclaimer and offers it to another. A refused token comes back, and its maker takes it.
@@ -28,8 +26,7 @@ pub fn offer<R: Reclaimer>(maker: &mut R, taker: &mut R, cell: u8) -> Option<Ref
     let debt = Unlinked::of(maker, cell)?;
     match taker.retire(debt) {
         Ok(()) => None,
-        Err(unpaid) => {
-            let Unpaid { why, debt } = unpaid;
+        Err(Unpaid { why, debt }) => {
             maker.retire(debt).unwrap();
             Some(why)
         }
@@ -57,16 +54,9 @@ mod tests {
         assert_eq!(rt; ab.compare(&abc), Ordering::Less);
         assert_eq!(rt; low.compare(&high), Ordering::Less);
         assert_eq!(rt; abc.as_bytes(), b"ABC".as_slice());
-        match ByteString::new(b"twelve bytes") {
-            Ok(_) => {
-                assert!(rt; false);
-                Ok(())
-            },
-            Err(too_long) => {
-                assert_eq!(rt; too_long.code(), 4);
-                Ok(())
-            },
-        }
+        let refused = ByteString::new(b"twelve bytes").err();
+        assert_eq!(rt; refused.map(|too_long| too_long.code()), Some(4));
+        Ok(())
     }
 
     #[test]
@@ -90,10 +80,7 @@ mod tests {
     }
 
     fn code<T: Drop>(made: Result<T, Unmade>) -> u16 {
-        match made {
-            Ok(_) => 0,
-            Err(why) => why.code(),
-        }
+        made.err().map_or(0, |why| why.code())
     }
 
     #[test]
@@ -118,41 +105,31 @@ mod tests {
         }
     }
 
-    fn number(answer: Result<(), Refusal>) -> u16 {
-        match answer {
-            Ok(()) => 0,
-            Err(why) => why.code(),
-        }
-    }
-
-    fn code_of(refused: Option<Refusal>) -> u16 {
-        match refused {
-            Some(why) => why.code(),
-            None => 0,
-        }
+    fn number(refused: Option<Refusal>) -> u16 {
+        refused.map_or(0, |why| why.code())
     }
 
     // Two sessions, and cells 0 to 2 in the small one, 0 to 3 in the large one.
     fn refuse_in_order<R: Reclaimer>(rt: &impl Abort, small: &mut R, large: &mut R) {
         let enters = [
-            number(small.enter(2)),
-            number(small.enter(0)),
-            number(small.enter(0)),
+            number(small.enter(2).err()),
+            number(small.enter(0).err()),
+            number(small.enter(0).err()),
         ];
         assert_eq!(rt; enters, [31, 0, 34]);
-        let leaves = [number(small.leave(2)), number(small.leave(1))];
+        let leaves = [number(small.leave(2).err()), number(small.leave(1).err())];
         assert_eq!(rt; leaves, [31, 35]);
         let protects = [
-            number(small.protect(2, 3, 3)),
-            number(small.protect(1, 3, 3)),
-            number(small.protect(0, 3, 3)),
-            number(small.protect(0, 2, 3)),
+            number(small.protect(2, 3, 3).err()),
+            number(small.protect(1, 3, 3).err()),
+            number(small.protect(0, 3, 3).err()),
+            number(small.protect(0, 2, 3).err()),
         ];
         assert_eq!(rt; protects, [31, 35, 32, 33]);
         let retires = [
-            code_of(offer(large, small, 2)),
-            code_of(offer(large, small, 3)),
-            code_of(offer(large, small, 2)),
+            number(offer(large, small, 2)),
+            number(offer(large, small, 3)),
+            number(offer(large, small, 2)),
         ];
         assert_eq!(rt; retires, [0, 33, 36]);
         let inside = [small.is_inside(0), small.is_inside(1), small.is_inside(255)];

@@ -4,7 +4,7 @@
 mod answers;
 mod help;
 
-use console::{Stop, tell};
+use console::{Stop, tell, unknown};
 use help::HELP;
 use std::env;
 use std::env::Args;
@@ -12,40 +12,27 @@ use std::process::ExitCode;
 use tables::{compare, run};
 use trials::{fuzz, load};
 
-fn print_help(rt: &HostRuntime) -> Result<(), Stop> {
-    print!(rt; "{HELP}")?;
-    Ok(())
-}
-
-fn unknown_command(rt: &HostRuntime, name: &str) -> Result<Stop, Stop> {
-    let message = format!(in rt.alloc(); "unknown command '{name}', see slotlock --help")?;
-    Ok(tell(rt, message))
-}
-
 fn command(rt: &HostRuntime, name: &str, args: Args) -> Result<(), Stop> {
-    if name == "run" {
-        run::command(rt, args)
-    } else if name == "answers" {
-        answers::command(rt, args)
-    } else if name == "compare" {
-        compare::command(rt, args)
-    } else if name == "load" {
-        load::command(rt, args)
-    } else if name == "fuzz" {
-        fuzz::command(rt, args)
-    } else if name == "help" || name == "--help" {
-        print_help(rt)
-    } else {
-        Err(unknown_command(rt, name)?)
+    match name {
+        "run" => run::command(rt, args),
+        "answers" => answers::command(rt, args),
+        "compare" => compare::command(rt, args),
+        "load" => load::command(rt, args),
+        "fuzz" => fuzz::command(rt, args),
+        "help" | "--help" => {
+            print!(rt; "{HELP}")?;
+            Ok(())
+        }
+        _ => Err(unknown(rt, "command", name)),
     }
 }
 
 fn go(rt: &HostRuntime) -> Result<(), Stop> {
     let mut args = env::args(rt)?;
-    let _ = args.next();
-    match args.next() {
+    let name = args.nth(1);
+    match name {
         Some(name) => command(rt, name.as_str(), args),
-        None => print_help(rt),
+        None => command(rt, "help", args),
     }
 }
 

@@ -1,5 +1,4 @@
 pub mod Records
-pub mod Schemes
 pub mod Reports
 pub mod Cuts
 pub mod Plays

@@ -1,5 +1,5 @@
 -- The calls: a run over the scheme asked for, and the call on numbers.
-use Rattle.std.specs.Prelude.{ℕ, false, cond, ◌⊎◌, List, length, Some, None, Ok, Err, Option, Result}
+use Rattle.std.specs.Prelude.{ℕ, false, cond, ◌⊎◌, List, length, None, Ok, Err, Result}
 use Rattle.std.specs.declared.cmp.Ordering.{Ordering}
 use Rattle.items.specs.Orders.{order_numbers}
 use Rattle.reclaim.specs.Checks.{sizes_fit}
@@ -13,10 +13,11 @@ use Rattle.reclaim.specs.declared.refusal.Unmade.{Unmade}
 use Rattle.board.specs.Opens.{bad_sizes, in_use}
 use Rattle.slotlock_c.specs.declared.record.AnswerRecord.{AnswerRecord}
 use Rattle.slotlock_c.specs.declared.report.Report.{Report}
-use Rattle.slotlock_c.specs.declared.scheme.Scheme.{Scheme}
-use Rattle.slotlock_c.specs.declared.scheme.Scheme.TheVariants.{Hazard, Epoch, Quiescent}
+use Rattle.reclaim.specs.declared.scheme.NoScheme.{NoScheme}
+use Rattle.reclaim.specs.declared.scheme.Scheme.{Scheme}
+use Rattle.reclaim.specs.declared.scheme.Scheme.TheVariants.{Hazard, Epoch, Quiescent}
 use Rattle.slotlock_c.specs.Reports.{Played, Refused, Reported, first_of}
-use Rattle.slotlock_c.specs.Schemes.{scheme_numbered}
+use Rattle.reclaim.specs.Schemes.{scheme_numbered}
 
 -- why no board was opened over a reclaimer in this state
 abbrev pub unopened : {S : Type 0} → Model S → S → ℕ → ℕ
@@ -34,11 +35,11 @@ RunOver M st cmp value (Ok r) items words old new said =
 RunOver M st cmp value (Err e) items words old new said = Refused (first_of (length words) (length old) (length items) (unmade_number e)) old new said
 
 -- a run over a new reclaimer of the scheme; 1 where there is no such scheme
-abbrev pub ReportedBy : {I V : Type 0} → Option Scheme → (sessions cells : ℕ) → (V → V → Ordering) → (I → V) → List I → List ℕ → List AnswerRecord → List AnswerRecord → Report → Type 0
-ReportedBy None s c cmp value items words old new said = Refused 1 old new said
-ReportedBy (Some Hazard) s c cmp value items words old new said = Reported hazard cmp value (new_table (empty_row false) s c) (sizes_fit s c) items words old new said
-ReportedBy (Some Epoch) s c cmp value items words old new said = Reported epochs cmp value (new_table None s c) (sizes_fit s c) items words old new said
-ReportedBy (Some Quiescent) s c cmp value items words old new said = Reported quiescent cmp value (new_table false s c) (sizes_fit s c) items words old new said
+abbrev pub ReportedBy : {I V : Type 0} → Result Scheme NoScheme → (sessions cells : ℕ) → (V → V → Ordering) → (I → V) → List I → List ℕ → List AnswerRecord → List AnswerRecord → Report → Type 0
+ReportedBy (Err e) s c cmp value items words old new said = Refused 1 old new said
+ReportedBy (Ok Hazard) s c cmp value items words old new said = Reported hazard cmp value (new_table (empty_row false) s c) (sizes_fit s c) items words old new said
+ReportedBy (Ok Epoch) s c cmp value items words old new said = Reported epochs cmp value (new_table None s c) (sizes_fit s c) items words old new said
+ReportedBy (Ok Quiescent) s c cmp value items words old new said = Reported quiescent cmp value (new_table false s c) (sizes_fit s c) items words old new said
 
 abbrev pub NumbersPlayed : (scheme sessions cells : ℕ) (items words : List ℕ) → List AnswerRecord → List AnswerRecord → Report → Type 0
 NumbersPlayed scheme s c items words old new said = ReportedBy (scheme_numbered scheme) s c order_numbers (λ x. x) items words old new said

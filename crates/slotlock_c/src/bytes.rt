@@ -1,26 +1,35 @@
 ghost use Rattle.std.specs.Prelude.{◌≡◌};
 ghost use Rattle.slotlock_c.specs.Cuts.{uncut_number};
 
-use items::ByteString;
-use std::alloc::Global;
+use items::{ByteString, TooLong};
+use std::alloc::{AllocFailed, Global};
 
-// Why bytes and lengths make no list of byte strings.
-#[derive(Clone, Copy)]
+// Why bytes and lengths make no list of byte strings, with the number that a report has for it.
+#[derive(Clone, Copy, PartialEq, Eq, Debug)]
 pub enum Uncut {
-    TooLong,
-    Misfit,
-    Memory,
+    Memory = 2,
+    TooLong = 4,
+    Misfit = 11,
 }
 
 impl Uncut {
+    // A cast of its own enum.
     pub(crate) fn code(self) -> u16
         ensures { result ≡ uncut_number self }
     {
-        match self {
-            Uncut::TooLong => 4,
-            Uncut::Misfit => 11,
-            Uncut::Memory => 2,
-        }
+        self as u16
+    }
+}
+
+impl From<TooLong> for Uncut {
+    fn from(_too_long: TooLong) -> Uncut {
+        Uncut::TooLong
+    }
+}
+
+impl<T: Drop> From<AllocFailed<T>> for Uncut {
+    fn from(_failed: AllocFailed<T>) -> Uncut {
+        Uncut::Memory
     }
 }
 
@@ -29,19 +38,15 @@ pub(crate) fn cut(heap: Global, bytes: &[u8], lengths: &[u8]) -> Result<Vec<Byte
     let mut strings = Vec::new(heap);
     let mut rest = bytes;
     for length in lengths {
-        let Some((piece, after)) = rest.split_at_checked(*length as usize) else {
-            return Err(Uncut::Misfit);
-        };
-        let Ok(string) = ByteString::new(piece) else {
-            return Err(Uncut::TooLong);
-        };
-        let Ok(()) = strings.push(string) else {
-            return Err(Uncut::Memory);
-        };
+        let (piece, after) = rest
+            .split_at_checked(*length as usize)
+            .ok_or(Uncut::Misfit)?;
+        strings.push(ByteString::new(piece)?)?;
         rest = after;
     }
-    if rest.len() > 0 {
-        return Err(Uncut::Misfit);
+    if rest.is_empty() {
+        Ok(strings)
+    } else {
+        Err(Uncut::Misfit)
     }
-    Ok(strings)
 }

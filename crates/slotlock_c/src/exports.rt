@@ -1,16 +1,15 @@
 ghost use Rattle.slotlock_c.specs.Plays.{ReportedBy, NumbersPlayed};
-ghost use Rattle.slotlock_c.specs.Schemes.{scheme_numbered};
+ghost use Rattle.reclaim.specs.Schemes.{scheme_numbered};
 
 use crate::bytes::cut;
 use crate::record::AnswerRecord;
 use crate::report::{Report, refused};
 use crate::run::run_over;
-use crate::scheme::{Scheme, scheme_of};
 use items::ItemOrder;
-use reclaim::{Epochs, HazardPointers, QuiescentStates};
+use reclaim::{Epochs, HazardPointers, NoScheme, QuiescentStates, Scheme};
 use std::alloc::Global;
 
-// Runs the words over the scheme of this number.
+// Runs the words over the scheme of this number, whose model the contract names.
 fn play_over<T: ItemOrder>(
     heap: Global,
     scheme: u8,
@@ -22,23 +21,23 @@ fn play_over<T: ItemOrder>(
 ) -> Report
     ensures { ReportedBy (scheme_numbered scheme) sessions cells T.order T.value items.now words.now answers.old answers.new result }
 {
-    match scheme_of(scheme) {
-        None => refused(1),
-        Some(Scheme::Hazard) => run_over(
+    match Scheme::try_from(scheme) {
+        Err(NoScheme) => refused(1),
+        Ok(Scheme::Hazard) => run_over(
             heap,
             HazardPointers::new(heap, sessions, cells),
             items,
             words,
             answers,
         ),
-        Some(Scheme::Epoch) => run_over(
+        Ok(Scheme::Epoch) => run_over(
             heap,
             Epochs::new(heap, sessions, cells),
             items,
             words,
             answers,
         ),
-        Some(Scheme::Quiescent) => run_over(
+        Ok(Scheme::Quiescent) => run_over(
             heap,
             QuiescentStates::new(heap, sessions, cells),
             items,

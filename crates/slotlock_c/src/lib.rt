@@ -10,7 +10,6 @@ mod exports;
 mod record;
 mod report;
 mod run;
-mod scheme;
 
 pub use exports::{slotlock_play_bytes, slotlock_play_numbers};
 pub use record::AnswerRecord;

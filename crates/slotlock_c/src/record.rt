@@ -1,7 +1,7 @@
-ghost use Rattle.std.specs.Prelude.{◌≡◌};
-ghost use Rattle.slotlock_c.specs.Records.{letter, as_record};
+ghost use Rattle.slotlock_c.specs.Records.{as_record};
 
-use machine::{Answer, AnswerKind};
+use board::KeptAnswer;
+use machine::Answer;
 
 // An answer as C sees it: the letter w, y, n, t or r, and the value.
 #[derive(Clone, Copy)]
@@ -11,23 +11,13 @@ pub struct AnswerRecord {
     pub value: u16,
 }
 
-pub(crate) fn letter_of(kind: AnswerKind) -> u8
-    ensures { result ≡ letter kind }
-{
-    match kind {
-        AnswerKind::UnderWay => b'w',
-        AnswerKind::Yes => b'y',
-        AnswerKind::No => b'n',
-        AnswerKind::Tidied => b't',
-        AnswerKind::Refused => b'r',
-    }
-}
+impl KeptAnswer for AnswerRecord {
+    ghost kept = { as_record };
 
-pub(crate) fn record_of(answer: Answer) -> AnswerRecord
-    ensures { result ≡ as_record answer }
-{
-    AnswerRecord {
-        letter: letter_of(answer.kind),
-        value: answer.value,
+    fn keep(answer: Answer) -> AnswerRecord {
+        AnswerRecord {
+            letter: answer.kind.letter(),
+            value: answer.value,
+        }
     }
 }

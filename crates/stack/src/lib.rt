@@ -1,125 +1,88 @@
 // The steps of push and pop: a stack whose head is swapped by one compare at a time.
 #![tactic(auto)]
 
-ghost use Rattle.std.specs.Prelude.{◌≡◌, [], ◌∷◌, Some};
+ghost use Rattle.std.specs.Prelude.{[], ◌∷◌, Some};
 ghost use Rattle.machine.specs.declared.stage.Stage.TheVariants.{PushSwapHead, PopCheckHead, PopSwapHead};
 ghost use Rattle.machine.specs.Machine.{touches, same, written, protected, on, push_swap, pop_read, pop_check, pop_swap};
-ghost use Rattle.memory.specs.Of.{memory_of};
+ghost use Rattle.memory.specs.Turns.{memory_at, Comes};
 
 use machine::{Answer, Cell, Stage};
-use memory::{Memory, complete, go_on, same_cell};
+use memory::{Turn, same_cell};
 use reclaim::Reclaimer;
 
 // Reads the head and writes it into the fresh cell's link.
-pub fn push_read_head<R: Reclaimer>(memory: &mut Memory<R>, stage: &mut Stage, fresh: u8) -> Answer
-    ensures after { memory_of R.state memory.new ≡ (on R.model (written R.model (memory_of R.state memory.old) fresh (memory_of R.state memory.old).head) (PushSwapHead fresh (memory_of R.state memory.old).head) []).memory }
-    ensures stage { stage.new ≡ (on R.model (written R.model (memory_of R.state memory.old) fresh (memory_of R.state memory.old).head) (PushSwapHead fresh (memory_of R.state memory.old).head) []).stage }
-    ensures answer { result ≡ (on R.model (written R.model (memory_of R.state memory.old) fresh (memory_of R.state memory.old).head) (PushSwapHead fresh (memory_of R.state memory.old).head) []).answer }
+pub fn push_read_head<R: Reclaimer>(turn: &mut Turn<'_, R>, fresh: u8) -> Answer
+    ensures { let m = memory_at R.state turn.old in Comes R.state turn.old turn.new result (on R.model (written R.model m fresh m.head) (PushSwapHead fresh m.head) []) }
 {
-    let head = memory.head();
-    memory.write_link(fresh, head);
-    go_on(stage, Stage::PushSwapHead { fresh, head })
+    let head = turn.memory.head();
+    turn.memory.write_link(fresh, head);
+    turn.go_on(Stage::PushSwapHead { fresh, head })
 }
 
 // If the head is still the one read, it becomes the fresh cell.
-pub fn push_swap_head<R: Reclaimer>(
-    memory: &mut Memory<R>,
-    session: u8,
-    stage: &mut Stage,
-    fresh: u8,
-    head: Option<u8>,
-) -> Answer
-    ensures after { memory_of R.state memory.new ≡ (push_swap R.model (memory_of R.state memory.old) session fresh (same (memory_of R.state memory.old).head head)).memory }
-    ensures stage { stage.new ≡ (push_swap R.model (memory_of R.state memory.old) session fresh (same (memory_of R.state memory.old).head head)).stage }
-    ensures answer { result ≡ (push_swap R.model (memory_of R.state memory.old) session fresh (same (memory_of R.state memory.old).head head)).answer }
+pub fn push_swap_head<R: Reclaimer>(turn: &mut Turn<'_, R>, fresh: u8, head: Option<u8>) -> Answer
+    ensures { let m = memory_at R.state turn.old in Comes R.state turn.old turn.new result (push_swap R.model m turn.old.session fresh (same m.head head)) }
 {
-    if same_cell(memory.head(), head) {
-        memory.set_head(Some(fresh));
-        complete(memory, session, stage, Answer::yes(0))
+    if same_cell(turn.memory.head(), head) {
+        turn.memory.set_head(Some(fresh));
+        turn.complete(Answer::yes(0))
     } else {
-        go_on(stage, Stage::PushReadHead { fresh })
+        turn.go_on(Stage::PushReadHead { fresh })
     }
 }
 
 // Reads the head; an empty stack ends the pop.
-pub fn pop_read_head<R: Reclaimer>(memory: &mut Memory<R>, session: u8, stage: &mut Stage) -> Answer
-    ensures after { memory_of R.state memory.new ≡ (pop_read R.model (memory_of R.state memory.old) session (memory_of R.state memory.old).head).memory }
-    ensures stage { stage.new ≡ (pop_read R.model (memory_of R.state memory.old) session (memory_of R.state memory.old).head).stage }
-    ensures answer { result ≡ (pop_read R.model (memory_of R.state memory.old) session (memory_of R.state memory.old).head).answer }
+pub fn pop_read_head<R: Reclaimer>(turn: &mut Turn<'_, R>) -> Answer
+    ensures { let m = memory_at R.state turn.old in Comes R.state turn.old turn.new result (pop_read R.model m turn.old.session m.head) }
 {
-    let Some(top) = memory.head() else {
-        return complete(memory, session, stage, Answer::no());
+    let Some(top) = turn.memory.head() else {
+        return turn.complete(Answer::no());
     };
-    go_on(stage, Stage::PopProtectTop { top })
+    turn.go_on(Stage::PopProtectTop { top })
 }
 
-pub fn pop_protect_top<R: Reclaimer>(
-    memory: &mut Memory<R>,
-    session: u8,
-    stage: &mut Stage,
-    top: u8,
-) -> Answer
-    ensures after { memory_of R.state memory.new ≡ (on R.model (protected R.model (memory_of R.state memory.old) session 0 top) (PopCheckHead top) []).memory }
-    ensures stage { stage.new ≡ (on R.model (protected R.model (memory_of R.state memory.old) session 0 top) (PopCheckHead top) []).stage }
-    ensures answer { result ≡ (on R.model (protected R.model (memory_of R.state memory.old) session 0 top) (PopCheckHead top) []).answer }
+pub fn pop_protect_top<R: Reclaimer>(turn: &mut Turn<'_, R>, top: u8) -> Answer
+    ensures { let m = memory_at R.state turn.old in Comes R.state turn.old turn.new result (on R.model (protected R.model m turn.old.session 0 top) (PopCheckHead top) []) }
 {
-    memory.protect(session, 0, top);
-    go_on(stage, Stage::PopCheckHead { top })
+    turn.memory.protect(turn.session, 0, top);
+    turn.go_on(Stage::PopCheckHead { top })
 }
 
 // Only a top that is still the head after it was protected may be touched.
-pub fn pop_check_head<R: Reclaimer>(
-    memory: &mut Memory<R>,
-    session: u8,
-    stage: &mut Stage,
-    top: u8,
-) -> Answer
-    ensures after { memory_of R.state memory.new ≡ (pop_check R.model (memory_of R.state memory.old) session top (same (memory_of R.state memory.old).head (Some top))).memory }
-    ensures stage { stage.new ≡ (pop_check R.model (memory_of R.state memory.old) session top (same (memory_of R.state memory.old).head (Some top))).stage }
-    ensures answer { result ≡ (pop_check R.model (memory_of R.state memory.old) session top (same (memory_of R.state memory.old).head (Some top))).answer }
+pub fn pop_check_head<R: Reclaimer>(turn: &mut Turn<'_, R>, top: u8) -> Answer
+    ensures { let m = memory_at R.state turn.old in Comes R.state turn.old turn.new result (pop_check R.model m turn.old.session top (same m.head (Some top))) }
 {
-    let still = same_cell(memory.head(), Some(top));
+    let still = same_cell(turn.memory.head(), Some(top));
     if still {
-        go_on(stage, Stage::PopReadTop { top })
+        turn.go_on(Stage::PopReadTop { top })
     } else {
-        go_on(stage, Stage::PopReadHead)
+        turn.go_on(Stage::PopReadHead)
     }
 }
 
 // Touches the top and reads its link and its item's place.
-pub fn pop_read_top<R: Reclaimer>(
-    memory: &mut Memory<R>,
-    session: u8,
-    stage: &mut Stage,
-    top: u8,
-) -> Answer
-    ensures after { memory_of R.state memory.new ≡ (on R.model (memory_of R.state memory.old) (PopSwapHead top ((memory_of R.state memory.old).link top) ((memory_of R.state memory.old).item top)) (touches session top ∷ [])).memory }
-    ensures stage { stage.new ≡ (on R.model (memory_of R.state memory.old) (PopSwapHead top ((memory_of R.state memory.old).link top) ((memory_of R.state memory.old).item top)) (touches session top ∷ [])).stage }
-    ensures answer { result ≡ (on R.model (memory_of R.state memory.old) (PopSwapHead top ((memory_of R.state memory.old).link top) ((memory_of R.state memory.old).item top)) (touches session top ∷ [])).answer }
+pub fn pop_read_top<R: Reclaimer>(turn: &mut Turn<'_, R>, top: u8) -> Answer
+    ensures { let m = memory_at R.state turn.old in Comes R.state turn.old turn.new result (on R.model m (PopSwapHead top (m.link top) (m.item top)) (touches turn.old.session top ∷ [])) }
 {
-    let Cell { place, link } = memory.cell(top);
+    let Cell { place, link } = turn.memory.cell(top);
     let next = link.to;
-    go_on(stage, Stage::PopSwapHead { top, next, place })
+    turn.go_on(Stage::PopSwapHead { top, next, place })
 }
 
 // If the head is still the top, the next cell becomes the head, and the top is unlinked.
 pub fn pop_swap_head<R: Reclaimer>(
-    memory: &mut Memory<R>,
-    session: u8,
-    stage: &mut Stage,
+    turn: &mut Turn<'_, R>,
     top: u8,
     next: Option<u8>,
     place: u16,
 ) -> Answer
-    ensures after { memory_of R.state memory.new ≡ (pop_swap R.model (memory_of R.state memory.old) session top next place (same (memory_of R.state memory.old).head (Some top))).memory }
-    ensures stage { stage.new ≡ (pop_swap R.model (memory_of R.state memory.old) session top next place (same (memory_of R.state memory.old).head (Some top))).stage }
-    ensures answer { result ≡ (pop_swap R.model (memory_of R.state memory.old) session top next place (same (memory_of R.state memory.old).head (Some top))).answer }
+    ensures { let m = memory_at R.state turn.old in Comes R.state turn.old turn.new result (pop_swap R.model m turn.old.session top next place (same m.head (Some top))) }
 {
-    if same_cell(memory.head(), Some(top)) {
-        memory.set_head(next);
-        memory.retire(top);
-        complete(memory, session, stage, Answer::yes(place))
+    if same_cell(turn.memory.head(), Some(top)) {
+        turn.memory.set_head(next);
+        turn.memory.retire(top);
+        turn.complete(Answer::yes(place))
     } else {
-        go_on(stage, Stage::PopReadHead)
+        turn.go_on(Stage::PopReadHead)
     }
 }

@@ -1,13 +1,12 @@
-ghost use Rattle.std.specs.Prelude.{◌≡◌};
 ghost use Rattle.machine.specs.Serial.{compared};
 ghost use Rattle.machine.specs.Machine.{moving};
-ghost use Rattle.memory.specs.Of.{memory_of};
+ghost use Rattle.memory.specs.Turns.{memory_at, Comes};
 
 use crate::begin::begin_op;
 use items::ItemOrder;
 use list::{link_fresh, mark_cell, remove_cell, search_step};
 use machine::{Answer, Kind, Reason, Stage};
-use memory::Memory;
+use memory::Turn;
 use reclaim::Reclaimer;
 use stack::{
     pop_check_head, pop_protect_top, pop_read_head, pop_read_top, pop_swap_head, push_read_head,
@@ -15,34 +14,22 @@ use stack::{
 };
 
 // The session's own stage and the word's kind together decide what happens; memory and stage are moved in place.
-pub fn act<R: Reclaimer, T: ItemOrder>(
-    memory: &mut Memory<R>,
-    session: u8,
-    items: &[T],
-    stage: &mut Stage,
-    kind: Kind,
-) -> Answer
-    ensures after { memory_of R.state memory.new ≡ (moving R.model (compared T.order T.value items.now) (memory_of R.state memory.old) session stage.old kind).memory }
-    ensures stage { stage.new ≡ (moving R.model (compared T.order T.value items.now) (memory_of R.state memory.old) session stage.old kind).stage }
-    ensures answer { result ≡ (moving R.model (compared T.order T.value items.now) (memory_of R.state memory.old) session stage.old kind).answer }
+pub fn act<R: Reclaimer, T: ItemOrder>(turn: &mut Turn<'_, R>, items: &[T], kind: Kind) -> Answer
+    ensures { Comes R.state turn.old turn.new result (moving R.model (compared T.order T.value items.now) (memory_at R.state turn.old) turn.old.session turn.old.stage.now kind) }
 {
-    match (*stage, kind) {
-        (Stage::Outside, Kind::Begin(op)) => begin_op(memory, session, stage, op),
+    match (*turn.stage, kind) {
+        (Stage::Outside, Kind::Begin(op)) => begin_op(turn, op),
         (Stage::Outside, Kind::Step) => Answer::refused(Reason::Outside),
-        (Stage::PushReadHead { fresh }, Kind::Step) => push_read_head(memory, stage, fresh),
-        (Stage::PushSwapHead { fresh, head }, Kind::Step) => push_swap_head(
-            memory, session, stage, fresh, head,
-        ),
-        (Stage::PopReadHead, Kind::Step) => pop_read_head(memory, session, stage),
-        (Stage::PopProtectTop { top }, Kind::Step) => pop_protect_top(memory, session, stage, top),
-        (Stage::PopCheckHead { top }, Kind::Step) => pop_check_head(memory, session, stage, top),
-        (Stage::PopReadTop { top }, Kind::Step) => pop_read_top(memory, session, stage, top),
-        (Stage::PopSwapHead { top, next, place }, Kind::Step) => pop_swap_head(
-            memory, session, stage, top, next, place,
-        ),
-        (Stage::Find { goal, at }, Kind::Step) => search_step(
-            memory, session, stage, items, goal, at,
-        ),
+        (Stage::PushReadHead { fresh }, Kind::Step) => push_read_head(turn, fresh),
+        (Stage::PushSwapHead { fresh, head }, Kind::Step) => push_swap_head(turn, fresh, head),
+        (Stage::PopReadHead, Kind::Step) => pop_read_head(turn),
+        (Stage::PopProtectTop { top }, Kind::Step) => pop_protect_top(turn, top),
+        (Stage::PopCheckHead { top }, Kind::Step) => pop_check_head(turn, top),
+        (Stage::PopReadTop { top }, Kind::Step) => pop_read_top(turn, top),
+        (Stage::PopSwapHead { top, next, place }, Kind::Step) => {
+            pop_swap_head(turn, top, next, place)
+        }
+        (Stage::Find { goal, at }, Kind::Step) => search_step(turn, items, goal, at),
         (
             Stage::LinkFresh {
                 sought,
@@ -51,7 +38,7 @@ pub fn act<R: Reclaimer, T: ItemOrder>(
                 cur,
             },
             Kind::Step,
-        ) => link_fresh(memory, session, stage, sought, fresh, prev, cur),
+        ) => link_fresh(turn, sought, fresh, prev, cur),
         (
             Stage::MarkCell {
                 sought,
@@ -60,7 +47,7 @@ pub fn act<R: Reclaimer, T: ItemOrder>(
                 next,
             },
             Kind::Step,
-        ) => mark_cell(memory, session, stage, sought, prev, cur, next),
+        ) => mark_cell(turn, sought, prev, cur, next),
         (
             Stage::RemoveCell {
                 sought,
@@ -69,7 +56,7 @@ pub fn act<R: Reclaimer, T: ItemOrder>(
                 next,
             },
             Kind::Step,
-        ) => remove_cell(memory, session, stage, sought, prev, cur, next),
+        ) => remove_cell(turn, sought, prev, cur, next),
         (_, Kind::Begin(_)) => Answer::refused(Reason::Inside),
     }
 }

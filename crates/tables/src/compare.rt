@@ -1,18 +1,16 @@
 // `slotlock compare`: one schedule over all three reclaimers, side by side.
 use board::Board;
-use console::{
-    Answered, Asked, MOST_STEPS, Stop, Who, file_arguments, refused, sessions_of, source,
-};
+use console::{Answered, Asked, Given, MOST_STEPS, Player, Stop, Who, refused, sessions_of};
 use items::ItemOrder;
 use machine::{Answer, AnswerKind, Reason};
 use reclaim::{Epochs, HazardPointers, QuiescentStates, Reclaimer};
-use schedule::{Act, Items, Schedule, WordKind, encode};
+use schedule::{Items, Keyword, Schedule, Scheme, WordKind, encode};
 use std::alloc::Global;
 use std::env::Args;
 use std::fmt;
 use std::io::{BufWriter, Write};
 
-// One board for each reclaimer.
+// One board for each reclaimer: three types, so no array.
 #[derive(Drop)]
 struct Boards {
     hazard: Board<HazardPointers>,
@@ -20,99 +18,55 @@ struct Boards {
     quiescent: Board<QuiescentStates>,
 }
 
-// The answers to one word; none where a board's `finish` has ended already.
+// The answers to one word, in the order of the boards; none where a board's `finish` has ended already.
 #[derive(Clone, Copy)]
 struct Row {
-    hazard: Option<Answer>,
-    epoch: Option<Answer>,
-    quiescent: Option<Answer>,
+    answers: [Option<Answer>; 3],
 }
 
-fn open(heap: Global, schedule: &Schedule, items: usize) -> Result<Boards, Reason> {
-    let sessions = sessions_of(schedule);
-    let hazard = loads::open(
-        heap,
-        HazardPointers::new(heap, sessions, schedule.cells),
-        items,
-    )?;
-    let epoch = loads::open(heap, Epochs::new(heap, sessions, schedule.cells), items)?;
-    let quiescent = loads::open(
-        heap,
-        QuiescentStates::new(heap, sessions, schedule.cells),
-        items,
-    )?;
-    Ok(Boards {
-        hazard,
-        epoch,
-        quiescent,
-    })
-}
-
-// Whether a `finish` goes on after its last answer.
-fn goes_on(last: Option<Answer>) -> bool {
-    match last {
-        Some(answer) => matches!(answer.kind, AnswerKind::UnderWay),
-        None => false,
-    }
-}
-
-fn step_if<R: Reclaimer, T: ItemOrder>(
+// The answer of a board where it is given the word. The three boards are of three types.
+fn word_if<R: Reclaimer, T: ItemOrder>(
+    given: bool,
     board: &mut Board<R>,
     items: &[T],
     word: u32,
-    goes_on: bool,
 ) -> Option<Answer> {
-    if goes_on {
-        Some(board.word(items, word))
-    } else {
-        None
-    }
+    given.then(|| board.word(items, word))
 }
 
 impl Boards {
-    fn give<T: ItemOrder>(&mut self, items: &[T], word: u32) -> Row {
+    fn open(heap: Global, schedule: &Schedule, items: usize) -> Result<Boards, Reason> {
+        let sessions = sessions_of(schedule);
+        let cells = schedule.cells;
+        Ok(Boards {
+            hazard: loads::open(heap, HazardPointers::new(heap, sessions, cells), items)?,
+            epoch: loads::open(heap, Epochs::new(heap, sessions, cells), items)?,
+            quiescent: loads::open(heap, QuiescentStates::new(heap, sessions, cells), items)?,
+        })
+    }
+
+    // Gives a word to some of the boards.
+    fn word<T: ItemOrder>(&mut self, given: [bool; 3], items: &[T], word: u32) -> Row {
+        let [hazard, epoch, quiescent] = given;
         Row {
-            hazard: Some(self.hazard.word(items, word)),
-            epoch: Some(self.epoch.word(items, word)),
-            quiescent: Some(self.quiescent.word(items, word)),
+            answers: [
+                word_if(hazard, &mut self.hazard, items, word),
+                word_if(epoch, &mut self.epoch, items, word),
+                word_if(quiescent, &mut self.quiescent, items, word),
+            ],
         }
-    }
-
-    // The next step words of a `finish`, where it has not ended.
-    fn go_on<T: ItemOrder>(&mut self, items: &[T], word: u32, last: Row) -> Row {
-        Row {
-            hazard: step_if(&mut self.hazard, items, word, goes_on(last.hazard)),
-            epoch: step_if(&mut self.epoch, items, word, goes_on(last.epoch)),
-            quiescent: step_if(&mut self.quiescent, items, word, goes_on(last.quiescent)),
-        }
-    }
-}
-
-fn kind_number(kind: AnswerKind) -> u8 {
-    match kind {
-        AnswerKind::UnderWay => 0,
-        AnswerKind::Yes => 1,
-        AnswerKind::No => 2,
-        AnswerKind::Tidied => 3,
-        AnswerKind::Refused => 4,
-    }
-}
-
-fn same(a: Option<Answer>, b: Option<Answer>) -> bool {
-    match (a, b) {
-        (Some(x), Some(y)) => kind_number(x.kind) == kind_number(y.kind) && x.value == y.value,
-        (None, None) => true,
-        _ => false,
     }
 }
 
 impl Row {
-    fn ended(self) -> bool {
-        !goes_on(self.hazard) && !goes_on(self.epoch) && !goes_on(self.quiescent)
+    // The boards on which a `finish` goes on.
+    fn under_way(self) -> [bool; 3] {
+        self.answers.map(|last| last.is_some_and(|answer| answer.kind == AnswerKind::UnderWay))
     }
 
     fn differs(self) -> bool {
-        !same(self.hazard, self.epoch) || !same(self.hazard, self.quiescent)
+        let [hazard, epoch, quiescent] = self.answers;
+        hazard != epoch || hazard != quiescent
     }
 }
 
@@ -135,17 +89,20 @@ impl fmt::Display for Column {
     }
 }
 
-// The table so far: its rows, and the first that differs.
-#[derive(Clone, Copy)]
-struct Progress {
+// The boards, and the table so far: its rows, and the first that differs.
+#[derive(Drop)]
+struct Comparison<'a, W> {
+    heap: Global,
+    out: W,
+    labels: &'a [String],
+    boards: Boards,
     rows: usize,
     first: Option<usize>,
 }
 
-impl Progress {
-    // Counts a row and says how it is marked.
+impl<W: Write> Comparison<'_, W> {
+    // How a row is marked that has just been counted.
     fn mark(&mut self, row: Row) -> &'static str {
-        self.rows = self.rows.saturating_add(1);
         if !row.differs() {
             return "";
         }
@@ -155,174 +112,93 @@ impl Progress {
         self.first = Some(self.rows);
         "  <- first difference"
     }
-}
 
-fn print<W: Write>(
-    heap: Global,
-    out: &mut W,
-    labels: &[String],
-    progress: &mut Progress,
-    word: u32,
-    row: Row,
-) -> Result<(), Stop> {
-    let mark = progress.mark(row);
-    let number = progress.rows;
-    let who = Who(word);
-    let asked = format!(in heap; "{}", Asked { word, labels })?;
-    let hazard = format!(in heap; "{}", Column(row.hazard))?;
-    let epoch = format!(in heap; "{}", Column(row.epoch))?;
-    let quiescent = format!(in heap; "{}", Column(row.quiescent))?;
-    writeln!(
-        out,
-        "{number:>4}  {who}   {asked:<16}  {hazard:<10}  {epoch:<10}  {quiescent:<10}{mark}"
-    )?;
-    Ok(())
-}
-
-#[derive(Drop)]
-struct Comparison<'a> {
-    rt: &'a HostRuntime,
-    schedule: &'a Schedule,
-}
-
-impl Comparison<'_> {
-    fn word<T: ItemOrder, W: Write>(
-        &self,
-        out: &mut W,
-        boards: &mut Boards,
-        items: &[T],
-        progress: &mut Progress,
-        word: u32,
-    ) -> Result<Row, Stop> {
-        let row = boards.give(items, word);
-        print(
-            self.rt.alloc(),
-            out,
-            self.schedule.labels.as_slice(),
-            progress,
+    // Gives a word to some of the boards, and prints what they answer.
+    fn row<T: ItemOrder>(&mut self, given: [bool; 3], items: &[T], word: u32) -> Result<Row, Stop> {
+        let row = self.boards.word(given, items, word);
+        self.rows = self.rows.saturating_add(1);
+        let mark = self.mark(row);
+        let number = self.rows;
+        let who = Who(word);
+        let asked = Asked {
             word,
-            row,
-        )?;
+            labels: self.labels,
+        }
+        .to_string(self.heap)?;
+        write!(self.out, "{number:>4}  {who}   {asked:<16}")?;
+        for answer in row.answers {
+            let column = Column(answer).to_string(self.heap)?;
+            write!(self.out, "  {column:<10}")?;
+        }
+        writeln!(self.out, "{mark}")?;
         Ok(row)
     }
 
-    fn finish<T: ItemOrder, W: Write>(
-        &self,
-        out: &mut W,
-        boards: &mut Boards,
-        items: &[T],
-        progress: &mut Progress,
-        word: u32,
-    ) -> Result<(), Stop> {
-        let mut row = self.word(out, boards, items, progress, word)?;
-        for _ in 1..MOST_STEPS {
-            if row.ended() {
-                return Ok(());
-            }
-            row = boards.go_on(items, word, row);
-            print(
-                self.rt.alloc(),
-                out,
-                self.schedule.labels.as_slice(),
-                progress,
-                word,
-                row,
-            )?;
+    fn end(&mut self) -> Result<(), Stop> {
+        writeln!(self.out)?;
+        match self.first {
+            Some(number) => writeln!(self.out, "the first difference is at word {number}")?,
+            None => writeln!(self.out, "no difference")?,
         }
-        Ok(())
-    }
-
-    fn act<T: ItemOrder, W: Write>(
-        &self,
-        out: &mut W,
-        boards: &mut Boards,
-        items: &[T],
-        progress: &mut Progress,
-        act: Act,
-    ) -> Result<(), Stop> {
-        match act {
-            Act::Word(word) => {
-                self.word(out, boards, items, progress, word)?;
-                Ok(())
-            }
-            Act::Steps { session, count } => {
-                for _ in 0..count {
-                    self.word(
-                        out,
-                        boards,
-                        items,
-                        progress,
-                        encode(WordKind::Step, session, 0),
-                    )?;
-                }
-                Ok(())
-            }
-            Act::Finish { session } => self.finish(
-                out,
-                boards,
-                items,
-                progress,
-                encode(WordKind::Step, session, 0),
-            ),
+        let tallies = [
+            (Scheme::Hazard, self.boards.hazard.tallies()),
+            (Scheme::Epoch, self.boards.epoch.tallies()),
+            (Scheme::Quiescent, self.boards.quiescent.tallies()),
+        ];
+        for (scheme, (held, free)) in tallies {
+            let name = scheme.name();
+            writeln!(self.out, "{name:<10} held {held} free {free}")?;
         }
-    }
-
-    fn rows<T: ItemOrder, W: Write>(
-        &self,
-        out: &mut W,
-        boards: &mut Boards,
-        items: &[T],
-    ) -> Result<(), Stop> {
-        let mut progress = Progress {
-            rows: 0,
-            first: None,
-        };
-        writeln!(
-            out,
-            "   #  who  word              hazard      epoch       quiescent"
-        )?;
-        for line in self.schedule.lines.iter() {
-            self.act(out, boards, items, &mut progress, line.act)?;
-        }
-        writeln!(out)?;
-        match progress.first {
-            Some(number) => writeln!(out, "the first difference is at word {number}")?,
-            None => writeln!(out, "no difference")?,
-        }
-        Ok(())
-    }
-
-    fn over<T: ItemOrder>(&self, items: &[T]) -> Result<(), Stop> {
-        let mut boards = match open(self.rt.alloc(), self.schedule, items.len()) {
-            Ok(boards) => boards,
-            Err(why) => return Err(refused(self.rt, why)),
-        };
-        let mut out = BufWriter::new(self.rt.alloc(), self.rt.stdout())?;
-        self.rows(&mut out, &mut boards, items)?;
-        tallies(&mut out, "hazard", &boards.hazard)?;
-        tallies(&mut out, "epoch", &boards.epoch)?;
-        tallies(&mut out, "quiescent", &boards.quiescent)?;
-        out.flush()?;
+        self.out.flush()?;
         Ok(())
     }
 }
 
-fn tallies<R: Reclaimer, W: Write>(out: &mut W, name: &str, board: &Board<R>) -> Result<(), Stop> {
-    let (held, free) = board.tallies();
-    writeln!(out, "{name:<10} held {held} free {free}")?;
-    Ok(())
+impl<W: Write> Player for Comparison<'_, W> {
+    // By under way on any board.
+    fn word<T: ItemOrder>(&mut self, items: &[T], word: u32) -> Result<bool, Stop> {
+        let row = self.row([true; 3], items, word)?;
+        Ok(row.under_way().contains(&true))
+    }
+
+    // Each board by itself until its own answer is otherwise than under way.
+    fn finish<T: ItemOrder>(&mut self, items: &[T], session: u8) -> Result<(), Stop> {
+        let mut given = [true; 3];
+        for _ in 0..MOST_STEPS {
+            let row = self.row(given, items, encode(WordKind::Step, session, 0))?;
+            given = row.under_way();
+            if !given.contains(&true) {
+                break;
+            }
+        }
+        Ok(())
+    }
 }
 
-fn compare<'a>(rt: &'a HostRuntime, schedule: &'a Schedule) -> Result<(), Stop> {
-    let comparison = Comparison { rt, schedule };
-    match &schedule.items {
-        Items::Numbers(numbers) => comparison.over(numbers.as_slice()),
-        Items::Bytes(strings) => comparison.over(strings.as_slice()),
-    }
+fn over<T: ItemOrder>(rt: &HostRuntime, schedule: &Schedule, items: &[T]) -> Result<(), Stop> {
+    let heap = rt.alloc();
+    let boards = Boards::open(heap, schedule, items.len()).map_err(|why| refused(rt, why))?;
+    let mut out = BufWriter::new(heap, rt.stdout())?;
+    writeln!(
+        out,
+        "   #  who  word              hazard      epoch       quiescent"
+    )?;
+    let mut comparison = Comparison {
+        heap,
+        out,
+        labels: schedule.labels.as_slice(),
+        boards,
+        rows: 0,
+        first: None,
+    };
+    comparison.play(items, schedule)?;
+    comparison.end()
 }
 
 pub fn command(rt: &HostRuntime, args: Args) -> Result<(), Stop> {
-    let given = file_arguments(rt, args, false)?;
-    let schedule = source::schedule(rt, given.path())?;
-    compare(rt, &schedule)
+    let schedule = Given::read(rt, args, false)?.schedule;
+    match &schedule.items {
+        Items::Numbers(numbers) => over(rt, &schedule, numbers.as_slice()),
+        Items::Bytes(strings) => over(rt, &schedule, strings.as_slice()),
+    }
 }

@@ -1,143 +1,126 @@
 // Damages texts, by numbers that a generator draws.
-ghost use Rattle.std.specs.Prelude.{◌≤◌, length};
+ghost use Rattle.std.specs.Prelude.{◌≤◌, ◌≡◌, ◌++◌, length};
 
 use loads::Generator;
 use std::alloc::{AllocError, Global};
 
-// A place in a text, its end included.
-fn place(r: u64, text: &[u8]) -> usize
+// The bytes that long runs are made of, among those that a text uses.
+const RUNS: [u8; 8] = *b"9 \"#\nx\0\xff";
+
+// A text that is to be damaged.
+#[derive(Drop)]
+struct Damage<'a> {
+    heap: Global,
+    numbers: &'a mut Generator,
+    text: &'a [u8],
+}
+
+// Where the last line of a text starts.
+fn line_start(text: &[u8]) -> usize
     ensures { result ≤ length text.now }
 {
-    match u64::try_from(text.len()) {
-        Ok(len) => match usize::try_from(r % len.saturating_add(1)) {
-            Ok(at) => at.min(text.len()),
-            Err(_) => 0,
-        },
-        Err(_) => 0,
-    }
+    text.iter()
+        .rposition(|b| *b == b'\n')
+        .map_or(0, |lf| lf + 1)
 }
 
-// The text up to a place that is drawn.
-fn cut(heap: Global, numbers: &mut Generator, text: &[u8]) -> Result<Vec<u8>, AllocError> {
-    let at = place(numbers.next(), text);
-    Vec::from_slice(heap, &text[0..at])
-}
-
-// The text with something put in at a place that is drawn.
-fn put_in(
-    heap: Global,
-    numbers: &mut Generator,
-    text: &[u8],
-    more: &[u8],
-) -> Result<Vec<u8>, AllocError> {
-    let at = place(numbers.next(), text);
-    let mut damaged = Vec::from_slice(heap, &text[0..at])?;
-    damaged.extend_from_slice(more)?;
-    damaged.extend_from_slice(&text[at..])?;
-    Ok(damaged)
-}
-
-// The text with some bytes changed, up to so many.
-fn flip(
-    heap: Global,
-    numbers: &mut Generator,
-    text: &[u8],
-    most: u64,
-) -> Result<Vec<u8>, AllocError> {
-    let mut damaged = Vec::from_slice(heap, text)?;
-    for _ in 0..most {
-        let at = place(numbers.next(), text);
-        let byte = (numbers.next() % 256) as u8;
-        if let Some(b) = damaged.get_mut(at) {
-            *b ^= byte;
-        }
-    }
-    Ok(damaged)
-}
-
-// So many bytes that are drawn.
-fn noise(heap: Global, numbers: &mut Generator, count: u64) -> Result<Vec<u8>, AllocError> {
-    let mut bytes = Vec::new(heap);
-    for _ in 0..count {
-        bytes.push((numbers.next() % 256) as u8)?;
-    }
-    Ok(bytes)
-}
-
-// A long run of one byte, drawn among those that a text uses.
-fn long_run(heap: Global, numbers: &mut Generator) -> Result<Vec<u8>, AllocError> {
-    let byte = match numbers.next() % 8 {
-        0 => b'9',
-        1 => b' ',
-        2 => b'"',
-        3 => b'#',
-        4 => b'\n',
-        5 => b'x',
-        6 => 0,
-        _ => 0xff,
-    };
-    let count = numbers.next() % 5000;
-    Vec::from_elem(heap, byte, count as usize)
-}
-
-// Where the line that has a place starts.
-fn line_start(text: &[u8], at: usize) -> usize
-    ensures { result ≤ at }
+// Where the first line of a text ends, past its LF.
+fn line_end(text: &[u8]) -> usize
+    ensures { result ≤ length text.now }
 {
-    let mut start = 0;
-    for (i, b) in text.iter().enumerate() {
-        if i >= at {
-            break;
-        }
-        if *b == b'\n' {
-            start = i + 1;
-        }
-    }
-    start
+    text.iter()
+        .position(|b| *b == b'\n')
+        .map_or(text.len(), |lf| lf + 1)
 }
 
-// Where the line that has a place ends, past its LF.
-fn line_end(text: &[u8], at: usize) -> usize
-    requires { at ≤ length text.now }
-    ensures { (at ≤ result) × (result ≤ length text.now) }
-{
-    for i in at..text.len() {
-        if text[i] == b'\n' {
-            return i + 1;
-        }
+impl<'a> Damage<'a> {
+    // The text up to a place that is drawn, and from there on.
+    fn split(&mut self) -> (&'a [u8], &'a [u8]) {
+        let at = self.numbers.next() % (self.text.len() as u64 + 1);
+        self.text.split_at(at as usize)
     }
-    text.len()
-}
 
-// The text with a line that is drawn standing there twice.
-fn double_line(heap: Global, numbers: &mut Generator, text: &[u8]) -> Result<Vec<u8>, AllocError> {
-    let at = place(numbers.next(), text);
-    let start = line_start(text, at);
-    let end = line_end(text, at);
-    let mut damaged = Vec::from_slice(heap, &text[0..end])?;
-    damaged.extend_from_slice(&text[start..end])?;
-    damaged.extend_from_slice(&text[end..])?;
-    Ok(damaged)
+    // The text up to a place that is drawn.
+    fn cut(&mut self) -> Result<Vec<u8>, AllocError> {
+        let (before, _) = self.split();
+        Vec::from_slice(self.heap, before)
+    }
+
+    // The text with something put in at a place that is drawn.
+    fn put_in(&mut self, more: &[u8]) -> Result<Vec<u8>, AllocError> {
+        let (before, after) = self.split();
+        let mut damaged = Vec::from_slice(self.heap, before)?;
+        damaged.extend_from_slice(more)?;
+        damaged.extend_from_slice(after)?;
+        Ok(damaged)
+    }
+
+    // The text with some bytes changed, up to so many.
+    fn flip(&mut self, most: u64) -> Result<Vec<u8>, AllocError> {
+        let mut damaged = Vec::from_slice(self.heap, self.text)?;
+        for _ in 0..most {
+            let (before, _) = self.split();
+            let byte = self.byte();
+            if let Some(b) = damaged.get_mut(before.len()) {
+                *b ^= byte;
+            }
+        }
+        Ok(damaged)
+    }
+
+    fn byte(&mut self) -> u8 {
+        (self.numbers.next() % 256) as u8
+    }
+
+    // So many bytes that are drawn.
+    fn noise(&mut self, count: u64) -> Result<Vec<u8>, AllocError> {
+        let heap = self.heap;
+        (0..count).map(|_| self.byte()).collect(heap)
+    }
+
+    // A long run of one byte that is drawn.
+    fn long_run(&mut self) -> Result<Vec<u8>, AllocError> {
+        let byte = RUNS[(self.numbers.next() % 8) as usize];
+        let count = self.numbers.next() % 5000;
+        Vec::from_elem(self.heap, byte, count as usize)
+    }
+
+    // The text with a line that is drawn standing there twice.
+    fn double_line(&mut self) -> Result<Vec<u8>, AllocError> {
+        let (before, after) = self.split();
+        let mut damaged = Vec::from_slice(self.heap, before)?;
+        damaged.extend_from_slice(&after[..line_end(after)])?;
+        damaged.extend_from_slice(&before[line_start(before)..])?;
+        damaged.extend_from_slice(after)?;
+        Ok(damaged)
+    }
 }
 
 // The text damaged in a way that is drawn.
 pub fn damaged(heap: Global, numbers: &mut Generator, text: &[u8]) -> Result<Vec<u8>, AllocError> {
-    match numbers.next() % 10 {
-        0 => cut(heap, numbers, text),
-        1 => flip(heap, numbers, text, 1),
-        2 => flip(heap, numbers, text, 20),
-        3 => double_line(heap, numbers, text),
-        4 => put_in(heap, numbers, text, b"99999999999999999999999"),
-        5 => put_in(heap, numbers, text, b" 4294967296 "),
+    let way = numbers.next() % 10;
+    let mut damage = Damage {
+        heap,
+        numbers,
+        text,
+    };
+    // Each way has arguments of its own, so a table of functions would be no plainer.
+    match way {
+        0 => damage.cut(),
+        1 => damage.flip(1),
+        2 => damage.flip(20),
+        3 => damage.double_line(),
+        4 => damage.put_in(b"99999999999999999999999"),
+        5 => damage.put_in(b" 4294967296 "),
         6 => {
-            let run = long_run(heap, numbers)?;
-            put_in(heap, numbers, text, run.as_slice())
+            let run = damage.long_run()?;
+            damage.put_in(run.as_slice())
         }
         7 => {
-            let bytes = noise(heap, numbers, 40)?;
-            put_in(heap, numbers, text, bytes.as_slice())
+            let bytes = damage.noise(40)?;
+            damage.put_in(bytes.as_slice())
         }
-        8 => noise(heap, numbers, 300),
-        _ => put_in(heap, numbers, text, b"\n"),
+        8 => damage.noise(300),
+        _ => damage.put_in(b"\n"),
     }
 }

@@ -1,8 +1,8 @@
 // `slotlock fuzz`: gives damaged texts to the reader, and counts what it says.
 use crate::damage::damaged;
-use crate::options::number;
+use crate::options::Arguments;
 use crate::samples::SAMPLES;
-use console::{Stop, tell};
+use console::Stop;
 use loads::Generator;
 use schedule::Unread;
 use std::alloc::Global;
@@ -31,21 +31,17 @@ impl Tally {
                 self.read = self.read.saturating_add(1);
                 Ok(())
             }
-            Err(Unread::Bad { line: _, expected }) => self.refuse(format!(in heap;
+            Err(Unread::Bad { expected, .. }) => self.refuse(format!(in heap;
                 "expected {expected}"
             )?),
-            Err(why) => self.refuse(format!(in heap; "{why}")?),
+            Err(why) => self.refuse(why.to_string(heap)?),
         }
     }
 }
 
 // The sample that a number draws.
 fn sample(r: u64) -> &'static str {
-    match r % 3 {
-        0 => SAMPLES[0],
-        1 => SAMPLES[1],
-        _ => SAMPLES[2],
-    }
+    SAMPLES[(r % 3) as usize]
 }
 
 fn trials(heap: Global, seed: u64, count: u64) -> Result<Tally, Stop> {
@@ -74,12 +70,10 @@ fn print(rt: &HostRuntime, seed: u64, count: u64, tally: &Tally) -> Result<(), S
 }
 
 pub fn command(rt: &HostRuntime, args: Args) -> Result<(), Stop> {
-    let mut args = args;
-    let seed = number(rt, &mut args, "a seed", 1, u64::MAX)?;
-    let count = number(rt, &mut args, "a number of texts", 0, u64::MAX)?;
-    if args.next().is_some() {
-        return Err(tell(rt, "expected a seed and a number of texts only"));
-    }
+    let mut arguments = Arguments { rt, args };
+    let seed = arguments.number("a seed", 1, u64::MAX)?;
+    let count = arguments.number("a number of texts", 0, u64::MAX)?;
+    arguments.end("expected a seed and a number of texts only")?;
     let tally = trials(rt.alloc(), seed, count)?;
     print(rt, seed, count, &tally)
 }

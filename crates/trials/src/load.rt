@@ -1,27 +1,30 @@
 // `slotlock load`: one seeded load, with its figures.
-use crate::options;
+use crate::options::Arguments;
 use console::Stop;
-use loads::{Figures, Outcome, Report};
+use loads::{Done, Figures, Report};
 use std::env::Args;
 use std::time::Instant;
 
 // Hundredths of nanoseconds for each of so many.
 fn share(nanos: u128, n: u64) -> u128 {
-    if n == 0 {
-        return 0;
-    }
-    nanos.saturating_mul(100) / u128::from(n)
+    nanos
+        .saturating_mul(100)
+        .checked_div(u128::from(n))
+        .unwrap_or(0)
 }
 
-fn figures(rt: &HostRuntime, figures: Figures) -> Result<(), Stop> {
-    let words = figures.words;
-    let operations = figures.operations;
-    let refusals = figures.refusals;
-    let most = figures.most_held;
+fn print(rt: &HostRuntime, figures: Figures) -> Result<(), Stop> {
+    let Figures {
+        words,
+        operations,
+        refusals,
+        most_held,
+        ..
+    } = figures;
     println!(rt; "words       {words}")?;
     println!(rt; "operations  {operations}")?;
     println!(rt; "refusals    {refusals}")?;
-    println!(rt; "most held   {most}")?;
+    println!(rt; "most held   {most_held}")?;
     Ok(())
 }
 
@@ -34,23 +37,16 @@ fn time(rt: &HostRuntime, what: &str, nanos: u128, n: u64) -> Result<(), Stop> {
 }
 
 pub fn command(rt: &HostRuntime, args: Args) -> Result<(), Stop> {
-    let mut args = args;
-    let load = options::load(rt, &mut args)?;
+    let load = Arguments { rt, args }.load()?;
     let start = Instant::now(rt)?;
     let outcome = loads::run(rt.alloc(), load)?;
     let nanos = start.elapsed(rt)?.as_nanos();
     let report = Report { load, outcome };
     println!(rt; "{report}")?;
-    match outcome {
-        Outcome::Refused(_) => Err(Stop::Told),
-        Outcome::Done {
-            figures: done,
-            held: _,
-            free: _,
-        } => {
-            figures(rt, done)?;
-            time(rt, "word", nanos, done.words)?;
-            time(rt, "operation", nanos, done.operations)
-        }
-    }
+    let Ok(Done { figures, .. }) = outcome else {
+        return Err(Stop::Told);
+    };
+    print(rt, figures)?;
+    time(rt, "word", nanos, figures.words)?;
+    time(rt, "operation", nanos, figures.operations)
 }

@@ -1,118 +1,100 @@
-// Numbers and options on the command line of a load.
-use console::{Stop, tell, unknown_option};
-use loads::{ItemSort, Load, Mode};
-use schedule::Scheme;
+// Numbers and options on a command line.
+ghost use Rattle.std.specs.Prelude.{◌≤◌, IfOk};
+
+use console::{Stop, tell, unknown};
+use loads::{DEFAULT_SEED, ItemSort, Load};
+use schedule::{Keyword, Names};
 use std::env::Args;
 
-// The argument that comes next.
-pub fn next(rt: &HostRuntime, args: &mut Args, what: &str) -> Result<String, Stop> {
-    match args.next() {
-        Some(text) => Ok(text),
-        None => {
-            let message = format!(in rt.alloc(); "expected {what}, see slotlock --help")?;
-            Err(tell(rt, message))
+// The arguments of a command that are still to be read.
+#[derive(Drop)]
+pub struct Arguments<'a> {
+    pub rt: &'a HostRuntime,
+    pub args: Args,
+}
+
+impl Arguments<'_> {
+    // The argument that comes next.
+    fn next(&mut self, what: &str) -> Result<String, Stop> {
+        if let Some(text) = self.args.next() {
+            return Ok(text);
+        }
+        let message = format!(in self.rt.alloc(); "expected {what}, see slotlock --help")?;
+        Err(tell(self.rt, message))
+    }
+
+    // The next argument as a number from a least to a most.
+    pub fn number(&mut self, what: &str, least: u64, most: u64) -> Result<u64, Stop>
+        ensures least { IfOk result (λ n. least ≤ n) }
+        ensures most { IfOk result (λ n. n ≤ most) }
+    {
+        let text = self.next(what)?;
+        match text.as_str().parse::<u64>() {
+            Ok(n) if least <= n && n <= most => Ok(n),
+            _ => {
+                let message = format!(in self.rt.alloc();
+                    "expected {what}, a number from {least} to {most}, not '{text}'"
+                )?;
+                Err(tell(self.rt, message))
+            }
         }
     }
-}
 
-// The next argument as a number from a least to a most.
-pub fn number(
-    rt: &HostRuntime,
-    args: &mut Args,
-    what: &str,
-    least: u64,
-    most: u64,
-) -> Result<u64, Stop> {
-    let text = next(rt, args, what)?;
-    if let Ok(n) = text.as_str().parse::<u64>() {
-        if least <= n && n <= most {
-            return Ok(n);
+    // The next argument as one of a few names.
+    fn keyword<K: Keyword>(&mut self, what: &str) -> Result<K, Stop> {
+        let text = self.next(what)?;
+        if let Some(keyword) = K::named(text.as_str()) {
+            return Ok(keyword);
         }
+        let names = Names { all: K::all() };
+        let message = format!(in self.rt.alloc(); "expected {names}, not '{text}'")?;
+        Err(tell(self.rt, message))
     }
-    let message = format!(in rt.alloc();
-        "expected {what}, a number from {least} to {most}, not '{text}'"
-    )?;
-    Err(tell(rt, message))
-}
 
-fn sixteen_bits(rt: &HostRuntime, args: &mut Args, what: &str, least: u64) -> Result<u16, Stop> {
-    let n = number(rt, args, what, least, 65535)?;
-    Ok(u16::try_from(n).unwrap_or(u16::MAX))
-}
-
-fn scheme(rt: &HostRuntime, args: &mut Args) -> Result<Scheme, Stop> {
-    let text = next(rt, args, "a reclaimer")?;
-    match Scheme::named(text.as_str()) {
-        Some(scheme) => Ok(scheme),
-        None => {
-            let message = format!(in rt.alloc();
-                "expected hazard, epoch or quiescent, not '{text}'"
-            )?;
-            Err(tell(rt, message))
+    // One option with its value.
+    fn option(&mut self, load: &mut Load, name: &str) -> Result<(), Stop> {
+        match name {
+            "--items" => load.sort = self.keyword("a sort of items")?,
+            "--sessions" => load.sessions = self.number("sessions", 0, 255)? as u8,
+            "--cells" => load.cells = self.number("cells", 0, 65535)? as u16,
+            "--seed" => load.seed = self.number("a seed", 1, u64::MAX)?,
+            _ => return Err(unknown(self.rt, "option", name)),
         }
+        Ok(())
     }
-}
 
-fn mode(rt: &HostRuntime, args: &mut Args) -> Result<Mode, Stop> {
-    let text = next(rt, args, "a mode")?;
-    match Mode::named(text.as_str()) {
-        Some(mode) => Ok(mode),
-        None => {
-            let message = format!(in rt.alloc(); "expected whole, mixed or junk, not '{text}'")?;
-            Err(tell(rt, message))
-        }
-    }
-}
-
-fn sort(rt: &HostRuntime, args: &mut Args) -> Result<ItemSort, Stop> {
-    let text = next(rt, args, "a sort of items")?;
-    match ItemSort::named(text.as_str()) {
-        Some(sort) => Ok(sort),
-        None => {
-            let message = format!(in rt.alloc(); "expected numbers or bytes, not '{text}'")?;
-            Err(tell(rt, message))
-        }
-    }
-}
-
-// One option with its value.
-fn option(rt: &HostRuntime, args: &mut Args, load: &mut Load, name: &str) -> Result<(), Stop> {
-    if name == "--items" {
-        load.sort = sort(rt, args)?;
-    } else if name == "--sessions" {
-        let n = number(rt, args, "sessions", 0, 255)?;
-        load.sessions = u8::try_from(n).unwrap_or(u8::MAX);
-    } else if name == "--cells" {
-        load.cells = sixteen_bits(rt, args, "cells", 0)?;
-    } else if name == "--seed" {
-        load.seed = number(rt, args, "a seed", 1, u64::MAX)?;
-    } else {
-        return Err(unknown_option(rt, name)?);
-    }
-    Ok(())
-}
-
-// The load that the arguments name: SCHEME MODE KEYS TURNS and options.
-pub fn load(rt: &HostRuntime, args: &mut Args) -> Result<Load, Stop> {
-    let scheme = scheme(rt, args)?;
-    let mode = mode(rt, args)?;
-    let keys = sixteen_bits(rt, args, "keys", 1)?;
-    let turns = number(rt, args, "turns", 0, u64::MAX)?;
-    let mut load = Load {
-        scheme,
-        sessions: 8,
-        cells: 256,
-        sort: ItemSort::Numbers,
-        keys,
-        mode,
-        seed: 88172645463325252,
-        turns,
-    };
-    for _ in 0..u64::MAX {
-        let Some(name) = args.next() else {
-            break;
+    // The load that the arguments name: SCHEME MODE KEYS TURNS and options.
+    pub fn load(&mut self) -> Result<Load, Stop> {
+        let scheme = self.keyword("a reclaimer")?;
+        let mode = self.keyword("a mode")?;
+        let keys = self.number("keys", 1, 65535)? as u16;
+        let turns = self.number("turns", 0, u64::MAX)?;
+        let mut load = Load {
+            scheme,
+            sessions: 8,
+            cells: 256,
+            sort: ItemSort::Numbers,
+            keys,
+            mode,
+            seed: DEFAULT_SEED,
+            turns,
         };
-        option(rt, args, &mut load, name.as_str())?;
+        // Not a `for` over the arguments, since an option takes its value from them too, and not a `while`, which would owe
+        // a measure.
+        for _ in 0..u64::MAX {
+            let Some(name) = self.args.next() else {
+                break;
+            };
+            self.option(&mut load, name.as_str())?;
+        }
+        Ok(load)
     }
-    Ok(load)
+
+    // Nothing more is expected.
+    pub fn end(&mut self, what: &str) -> Result<(), Stop> {
+        match self.args.next() {
+            Some(_) => Err(tell(self.rt, what)),
+            None => Ok(()),
+        }
+    }
 }

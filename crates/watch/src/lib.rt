@@ -5,6 +5,6 @@ pub mod decided;
 pub mod picture;
 pub mod watch;
 
-pub use decided::{Decided, Serial};
+pub use decided::{Decided, Decision, Serial};
 pub use picture::Picture;
 pub use watch::Watch;

@@ -1,17 +1,17 @@
 // Gives words to a board and keeps what the board itself does not show: operations, announced cells, decisions.
-ghost use Rattle.std.specs.Prelude.{◌<◌};
+ghost use Rattle.std.specs.Prelude.{◌<◌, IfSome};
 
 use crate::decided::{Decided, verdict};
-use account::Moment;
 use account::moment::compared_at;
+use account::{Moment, Tallies};
 use board::Board;
 use items::ItemOrder;
-use machine::{Answer, AnswerKind, Cell, Kind, Op, Reason, Search, Stage, Word};
+use machine::{AnswerKind, Kind, Op, Search, Stage, Word};
 use reclaim::Reclaimer;
 use std::alloc::{AllocError, Global};
 
 // A session: its operation, the cells that it announced in its slots since it began, and whether another ended one since its last word.
-#[derive(Clone, Copy)]
+#[derive(Clone, Copy, Default)]
 pub struct Seat {
     pub op: Option<Op>,
     pub announced: [Option<u8>; 3],
@@ -22,58 +22,38 @@ pub struct Seat {
 pub struct Watch {
     sessions: u8,
     items: u16,
-    seats: [Seat; 8],
+    pub(crate) seats: [Seat; 8],
     pub decided: Vec<Decided>,
 }
 
-const EMPTY: Seat = Seat {
-    op: None,
-    announced: [None, None, None],
-    asleep: false,
-};
-
 // The slot and the cell that a step of a stage protects.
-pub fn announces(stage: Stage) -> Option<(u8, u8)> {
+pub fn announces(stage: Stage) -> Option<(u8, u8)>
+    ensures { IfSome result (λ (slot, cell). slot < 3) }
+{
     match stage {
         Stage::PopProtectTop { top } => Some((0, top)),
-        Stage::Find {
-            goal: _,
-            at: Search::ProtectFirst { cur },
-        } => Some((1, cur)),
-        Stage::Find {
-            goal: _,
-            at: Search::ProtectNext {
-                prev: _,
-                cur: _,
-                marked: _,
-                next,
-                place: _,
-            },
-        } => Some((0, next)),
-        Stage::Find {
-            goal: _,
-            at: Search::ShiftPrev { cur, next: _ },
-        } => Some((2, cur)),
-        Stage::Find {
-            goal: _,
-            at: Search::ShiftCur { prev: _, next },
-        } => Some((1, next)),
+        Stage::Find { at, .. } => match at {
+            Search::ProtectFirst { cur } => Some((1, cur)),
+            Search::ProtectNext { next, .. } => Some((0, next)),
+            Search::ShiftPrev { cur, .. } => Some((2, cur)),
+            Search::ShiftCur { next, .. } => Some((1, next)),
+            _ => None,
+        },
         _ => None,
     }
 }
 
 impl Seat {
     fn announce(&mut self, slot: u8, cell: u8) {
-        match slot {
-            0 => self.announced[0] = Some(cell),
-            1 => self.announced[1] = Some(cell),
-            _ => self.announced[2] = Some(cell),
+        if let Some(announced) = self.announced.get_mut(usize::from(slot)) {
+            *announced = Some(cell);
         }
     }
 }
 
-fn completes(answer: Answer) -> bool {
-    matches!(answer.kind, AnswerKind::Yes | AnswerKind::No)
+// Where a session stands; outside, where a word has none.
+fn stage_of<R: Reclaimer>(board: &Board<R>, session: Option<u8>) -> Stage {
+    session.map_or(Stage::Outside, |session| board.stage_of(session))
 }
 
 impl Watch {
@@ -81,7 +61,7 @@ impl Watch {
         Watch {
             sessions,
             items,
-            seats: [EMPTY; 8],
+            seats: [Seat::default(); 8],
             decided: Vec::new(heap),
         }
     }
@@ -91,40 +71,35 @@ impl Watch {
     }
 
     pub fn seat(&self, session: u8) -> Seat {
-        if session < 8 {
-            self.seats[session as usize]
-        } else {
-            EMPTY
-        }
+        self.seats
+            .get(usize::from(session))
+            .copied()
+            .unwrap_or_default()
     }
 
     fn set_seat(&mut self, session: u8, seat: Seat) {
-        if session < 8 {
-            self.seats[session as usize] = seat;
+        if let Some(place) = self.seats.get_mut(usize::from(session)) {
+            *place = seat;
         }
     }
 
-    // The other sessions in an operation have slept through the end of one.
-    fn lull(&mut self, session: u8) {
-        for s in 0..8u8 {
-            let mut seat = self.seat(s);
-            if s != session && seat.op.is_some() {
-                seat.asleep = true;
-                self.set_seat(s, seat);
-            }
+    // The sessions in an operation have slept through the end of one.
+    fn lull(&mut self) {
+        for seat in self.seats.iter_mut() {
+            seat.asleep = seat.op.is_some();
         }
     }
 
     fn decide(&mut self, session: u8, m: &Moment) -> Result<(), AllocError> {
-        let (Some(yes), Some(op)) = (verdict(m.before, m.after, m.answer), m.op) else {
-            return Ok(());
-        };
-        self.decided.push(Decided {
-            session,
-            op,
-            yes,
-            place: m.answer.value,
-        })?;
+        if let Some(decision) = verdict(m.before, m.after, m.answer)
+            && let Some(op) = m.op
+        {
+            self.decided.push(Decided {
+                session,
+                op,
+                decision,
+            })?;
+        }
         Ok(())
     }
 
@@ -133,58 +108,36 @@ impl Watch {
         let mut seat = self.seat(session);
         m.op = seat.op;
         m.woke = seat.asleep;
+        self.decide(session, m)?;
+        if let AnswerKind::Yes | AnswerKind::No = m.answer.kind {
+            self.set_seat(session, Seat::default());
+            self.lull();
+            return Ok(());
+        }
         seat.asleep = false;
         if let Some((slot, cell)) = announces(m.before) {
             seat.announce(slot, cell);
         }
-        self.decide(session, m)?;
-        if completes(m.answer) {
-            self.set_seat(session, EMPTY);
-            self.lull(session);
-        } else {
-            self.set_seat(session, seat);
-        }
+        self.set_seat(session, seat);
         Ok(())
     }
 
-    // A begin that was not refused.
-    fn begin(&mut self, session: u8, op: Op) {
-        self.set_seat(
-            session,
-            Seat {
-                op: Some(op),
-                announced: [None; 3],
-                asleep: false,
-            },
-        );
-    }
-
     fn note(&mut self, m: &mut Moment) -> Result<(), AllocError> {
-        match (m.asked, m.answer.kind) {
-            (_, AnswerKind::Refused) => Ok(()),
-            (
-                Ok(
-                    Word::Of {
-                        session,
-                        kind: Kind::Begin(op),
+        if let Ok(Word::Of { session, kind }) = m.asked
+            && m.answer.kind != AnswerKind::Refused
+        {
+            match kind {
+                Kind::Begin(op) => self.set_seat(
+                    session,
+                    Seat {
+                        op: Some(op),
+                        ..Seat::default()
                     },
                 ),
-                _,
-            ) => {
-                self.begin(session, op);
-                Ok(())
+                Kind::Step => self.step(session, m)?,
             }
-            (
-                Ok(
-                    Word::Of {
-                        session,
-                        kind: Kind::Step,
-                    },
-                ),
-                _,
-            ) => self.step(session, m),
-            _ => Ok(()),
         }
+        Ok(())
     }
 
     // Gives one word to a board.
@@ -196,29 +149,24 @@ impl Watch {
     ) -> Result<Moment, AllocError> {
         let asked = Word::parse(word, self.sessions, self.items);
         let session = match asked {
-            Ok(Word::Of { session, kind: _ }) => session,
-            _ => u8::MAX,
+            Ok(Word::Of { session, .. }) => Some(session),
+            _ => None,
         };
-        let before = board.stage_of(session);
-        let tallied = board.tallies();
+        let before = stage_of(board, session);
+        let tallies_before = Tallies::from(board.tallies());
         let answer = board.word(items, word);
-        let compared = match compared_at(before) {
-            Some(cell) => Some(board.cell_at(cell)),
-            None => None,
-        };
-        let after = board.stage_of(session);
-        let tallies = (tallied, board.tallies());
         let mut moment = Moment {
             word,
             asked,
             answer,
             before,
-            after,
+            after: stage_of(board, session),
             op: None,
-            tallies,
+            tallies_before,
+            tallies: Tallies::from(board.tallies()),
             head: board.head(),
             front: board.front(),
-            compared,
+            compared: compared_at(before).map(|cell| board.cell_at(cell)),
             woke: false,
         };
         self.note(&mut moment)?;

@@ -6,7 +6,7 @@ ghost use Rattle.std.specs.Prelude.{◌≡◌, ◌≤◌, length};
 #[derive(Clone, Copy, PartialEq, Eq, Debug)]
 pub struct TooLong;
 
-// At most 11 bytes, by value: the first `len` of the array.
+// At most 11 bytes: the first `len` of the array. By value, with no heap, so that it is `Copy`.
 #[derive(Clone, Copy)]
 pub struct ByteString {
     pub(super) bytes: [u8; 11],

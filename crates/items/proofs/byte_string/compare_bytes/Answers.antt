@@ -1,26 +1,22 @@
-use Rattle.std.proofs.Common.{sym, ◌∙◌, arith}
-use Rattle.items.specs.OrderLaws.{at_both, past_first, past_second, past_both, smaller_byte, greater_byte, same_byte}
+use Rattle.std.proofs.Common.{◌≡◌, ℕ, List, [], ◌∷◌, length, nat_cmp, sym, refl, ◌∙◌, ⊎_elim, arith}
+use Rattle.std.proofs.lemmas.Bool.Decides.{nat_tests}
+use Rattle.items.specs.Orders.{order_bytes}
 use Rattle.items.proofs.byte_string.compare_bytes.Goals as goal
 
-pub returns-then-i-b : goal.returns-then-i-b
-returns-then-i-b c = sym (past_second c.args.a.now c.args.b.now c.loop-i.i (omega arith) (omega arith)) ∙ c.loop-i.invariant.0
+-- where one is a beginning of the other, the lengths decide
+first_ended : (xs ys : List ℕ) → length xs ≡ 0 → nat_cmp (length xs) (length ys) ≡ order_bytes xs ys
+first_ended [] [] h = refl
+first_ended [] (y ∷ ys) h = grind (arith, nat_tests)
+first_ended (x ∷ xs) ys h = absurd (omega arith)
 
-pub returns-then-a-i : goal.returns-then-a-i
-returns-then-a-i c =
-    sym (at_both c.args.a.now c.args.b.now c.loop-i.i (omega arith) (omega arith) ∙ smaller_byte _ _ _ c.if-a-i.true) ∙ c.loop-i.invariant.0
+second_ended : (xs ys : List ℕ) → length ys ≡ 0 → nat_cmp (length xs) (length ys) ≡ order_bytes xs ys
+second_ended [] [] h = refl
+second_ended (x ∷ xs) [] h = grind (arith, nat_tests)
+second_ended xs (y ∷ ys) h = absurd (omega arith)
 
-pub returns-then-b-i : goal.returns-then-b-i
-returns-then-b-i c =
-    sym (at_both c.args.a.now c.args.b.now c.loop-i.i (omega arith) (omega arith) ∙ greater_byte _ _ _ c.if-b-i.true) ∙ c.loop-i.invariant.0
-
-pub loop-i-preserved : goal.loop-i-preserved
-loop-i-preserved c = (
-  sym (at_both c.args.a.now c.args.b.now c.loop-i.i (omega arith) (omega arith) ∙ same_byte _ _ _ c.if-a-i.false c.if-b-i.false) ∙ c.loop-i.invariant.0,
-  omega arith,
-)
-
-pub returns-then-a-b : goal.returns-then-a-b
-returns-then-a-b c = sym (past_first c.args.a.now c.args.b.now c.loop-i.i (omega arith) (omega arith)) ∙ c.loop-i.invariant.0
-
-pub returns-else-a-b : goal.returns-else-a-b
-returns-else-a-b c = sym (past_both c.args.a.now c.args.b.now c.loop-i.i (omega arith) (omega arith)) ∙ c.loop-i.invariant.0
+pub returns : goal.returns
+returns c =
+    c.cmp.ensures
+    ∙ sym c.loop-x.invariant.lengths
+    ∙ ⊎_elim (λ h. first_ended _ _ h.1.0) (λ h. second_ended _ _ h.1.0) c.in-None.ensures.steps
+    ∙ c.loop-x.invariant.bytes

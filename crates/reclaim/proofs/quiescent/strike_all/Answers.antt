@@ -18,14 +18,6 @@ invariant_of-held c =
     let h = c.args.held.now in
     let e = all_refilled (strike c.args.session) c.deref_mut-held_cell-items.result.now c.loop-held_cell.held_cell-items c.loop-held_cell.held_cell-index c.loop-held_cell.invariant
     c.args.held.now.list.items _ c.args.held.now.list.len c.deref_mut-held_cell-items.ensures.value c.loop-held_cell-test.false h.list.ok.0 in
-    let k = cells_kept cell (strike c.args.session) (λ x. refl) c.args.held.now.list.items _ c.args.held.now.cells e h.below h.apart in
+    let k = cells_kept cell (strike c.args.session) (λ x. refl) c.args.held.now.list.items _ c.args.held.now.sizes.cells e h.below h.apart in
     let t = flags_kept cell (strike c.args.session) (λ x. refl) c.args.held.now.list.items _ c.args.held.now.flags e h.told in
-    record { few = h.few; below = k.0; apart = k.1; room = h.room; every = h.every; told = t }
-
-pub returns : goal.returns
-returns c = record {
-  items =
-      all_refilled (strike c.args.session) c.deref_mut-held_cell-items.result.now c.loop-held_cell.held_cell-items c.loop-held_cell.held_cell-index c.loop-held_cell.invariant
-      c.args.held.now.list.items _ c.args.held.now.list.len c.deref_mut-held_cell-items.ensures.value c.loop-held_cell-test.false c.args.held.now.list.ok.0;
-  cells = refl;
-}
+    record { below = k.0; apart = k.1; room = h.room; every = h.every; told = t }

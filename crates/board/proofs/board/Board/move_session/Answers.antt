@@ -8,6 +8,6 @@ unfolding stages
 returns g c =
     let e = c.act.ensures in
     record {
-      after = rw (stages_set c.args.self.now.stages c.args.session c.act.new.stage (omega (arith, c.args.self.now.eight)), e.after, e.stage) refl;
-      answer = e.answer;
+      after = rw (stages_set c.args.self.now.stages c.args.session c.act.new.turn.stage.now (omega (arith, c.args.self.now.eight)), e.1, e.2) refl;
+      answer = e.3;
     }

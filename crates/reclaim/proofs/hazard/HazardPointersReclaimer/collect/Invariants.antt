@@ -1,20 +1,14 @@
-use Rattle.std.proofs.Common.{◌≡◌, ℕ, ◌+◌, ◌<◌, ◌≤◌, true, false, List, get_or, None, vec_items}
-use Rattle.reclaim.specs.declared.hazard.table.Row.{Row}
-use Rattle.reclaim.specs.HazardPointers.{stores, rows_store, no_row}
+use Rattle.std.proofs.Common.{◌≡◌, ℕ, ◌<◌, true, false, get_or, take}
+use Rattle.reclaim.specs.HazardPointers.{row_stores, rows_store}
 use Rattle.reclaim.proofs.hazard.HazardPointersReclaimer.collect.Given as goal
-
--- the slots of session s below n do not store the cell
-abbrev pub Clear : List Row → ℕ → ℕ → ℕ → Type 0
-Clear rows cell s n = (i : ℕ) → i < n → stores (get_or (get_or rows s no_row).slots i None) cell ≡ false
 
 -- every older cell is stored
 abbrev pub invariant-held : goal.invariant-held
-invariant-held l = (l.self ≡ l.initial.self) × ((k : ℕ) → k < l.at → rows_store l.self.rows (get_or (vec_items l.self.held.list) k (record { cell = 0; note = tt })).cell ≡ true)
+invariant-held l = (k : ℕ) → k < l.at → rows_store l.rows (get_or l.held_cell-items k (record { cell = 0; note = tt })).cell ≡ true
 
-abbrev pub invariant-loop-session : goal.invariant-loop-session
-invariant-loop-session l = (s : ℕ) → s < l.session → Clear l.self.rows l.cell s 3
+-- no row and no slot so far stores the cell
+abbrev pub invariant-loop-row : goal.invariant-loop-row
+invariant-loop-row l = rows_store (take l.row-index l.rows) l.cell ≡ false
 
--- after three slots the session is done
 abbrev pub invariant-loop-slot : goal.invariant-loop-slot
-invariant-loop-slot l =
-    Clear l.self.rows l.cell l.session l.slot × (3 ≤ l.slot → (s : ℕ) → s < l.session + 1 → Clear l.self.rows l.cell s 3)
+invariant-loop-slot l = row_stores (take l.slot-index l.slot-items) l.cell ≡ false
