@@ -60,7 +60,7 @@ impl fmt::Display for Asked<'_> {
 #[derive(Clone, Copy)]
 pub struct Answered {
     pub answer: Answer,
-    // whether a yes carries a place
+    // whether a yes carries a place, which an answer alone does not say
     pub pops: bool,
 }
 

@@ -11,7 +11,8 @@ use machine::{Answer, AnswerKind, session_of};
 use reclaim::Reclaimer;
 use schedule::{WordKind, encode};
 
-// More steps than any operation takes that runs alone.
+// More steps than any operation takes that runs alone. The commands go on by a loop of their own, which prints and can
+// stop.
 const MOST_STEPS: u32 = 1_000_000;
 
 // A board with its list of items, and what a load has come to on it.

@@ -43,7 +43,8 @@ fn over<T: ItemOrder>(heap: Global, load: Load, items: &[T]) -> Result<Done, Rea
     )
 }
 
-// Runs a load. Like sizes out of range, no keys at all are refused.
+// Runs a load. Like sizes out of range, no keys at all are refused. A refusal is an outcome that is printed, and want of
+// memory stops the caller: so one result stands in the other.
 pub fn run(heap: Global, load: Load) -> Result<Result<Done, Reason>, AllocError> {
     match load.sort {
         ItemSort::Numbers => {

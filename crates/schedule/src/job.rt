@@ -15,7 +15,8 @@ pub trait Job {
     ) -> Self::Output;
 }
 
-// Makes a reclaimer of a scheme and does a job over it.
+// Makes a reclaimer of a scheme and does a job over it. A load and a schedule have the three numbers among others, so
+// a struct of them would be filled for this call only.
 pub fn with_reclaimer<J: Job, T: ItemOrder>(
     heap: Global,
     scheme: Scheme,

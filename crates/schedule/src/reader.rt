@@ -23,7 +23,7 @@ const MOST_STEPS: u32 = 1_000_000;
 #[derive(Drop)]
 struct Draft {
     heap: Global,
-    // lines taken
+    // lines taken, counted here since the end of the text is told by them too
     number: usize,
     reclaimer: Option<Scheme>,
     sessions: Option<u16>,

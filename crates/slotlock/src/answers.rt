@@ -105,20 +105,20 @@ impl Answers<'_> {
             add(&mut words, line.act)?;
         }
         let mut answers = Vec::from_elem(heap, Answer::no(), words.len())?;
-        match board::play(
+        let board = board::play(
             heap,
             reclaimer,
             items,
             words.as_slice(),
             answers.as_mut_slice(),
-        ) {
-            Ok(board) => {
-                let mut out = BufWriter::new(heap, self.rt.stdout())?;
-                print(&mut out, answers.as_slice())?;
-                print_tallies(&mut out, &board)
-            }
-            Err(Unopened { why, reclaimer: _ }) => Err(refused(self.rt, why)),
-        }
+        )
+        .map_err(|Unopened {
+            why,
+            reclaimer: _reclaimer,
+        }| refused(self.rt, why))?;
+        let mut out = BufWriter::new(heap, self.rt.stdout())?;
+        print(&mut out, answers.as_slice())?;
+        print_tallies(&mut out, &board)
     }
 
     // Stretch by stretch on an open board.

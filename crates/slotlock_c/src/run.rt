@@ -45,7 +45,8 @@ fn run_on<R: Reclaimer + Drop, T: ItemOrder>(
     }
 }
 
-// The checks that need no reclaimer, then the run over the one that was made.
+// The checks that need no reclaimer, then the run over the one that was made. Not `play`: that a reclaimer was not made
+// is told after these checks.
 pub(crate) fn run_over<R: Reclaimer + Drop, T: ItemOrder>(
     heap: Global,
     made: Result<R, Unmade>,

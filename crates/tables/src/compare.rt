@@ -70,7 +70,7 @@ impl Row {
     }
 }
 
-// A column: the answer, or nothing.
+// A column: the answer, or a dash. The slots of a picture have a type of their own, since they show a bare number.
 #[derive(Clone, Copy)]
 struct Column(Option<Answer>);
 

@@ -31,7 +31,7 @@ fn numbers<I: Iterator<Item = u8>, W: fmt::Write>(
     if any { Ok(()) } else { f.write_str(" none") }
 }
 
-// What is announced in a slot.
+// What is announced in a slot, or a dash.
 #[derive(Clone, Copy)]
 struct Slot(Option<u8>);
 

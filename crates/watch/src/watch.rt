@@ -140,7 +140,7 @@ impl Watch {
         Ok(())
     }
 
-    // Gives one word to a board.
+    // Gives one word to a board, which is the caller's.
     pub fn give<R: Reclaimer, T: ItemOrder>(
         &mut self,
         board: &mut Board<R>,
