@@ -1,6 +1,6 @@
 // The held cells of a scheme, in the order of their retirement.
 
-ghost use Rattle.std.specs.Prelude.{◌≡◌, ◌<◌, ◌≤◌, true, false, [], map, length, Ok, Err, vec_capacity, slice_index};
+ghost use Rattle.std.specs.Prelude.{◌≡◌, ◌<◌, ◌≤◌, true, false, [], ◌∷◌, ◌++◌, map, length, Ok, Err, vec_capacity, slice_index};
 ghost use Rattle.std.specs.List.{remove};
 ghost use Rattle.reclaim.specs.declared.refusal.Unmade.TheVariants.{Memory as NoMemory};
 ghost use Rattle.reclaim.specs.Cells.{has as stands_for, distinct, all_below, FlagsOf};
@@ -85,6 +85,18 @@ impl<N: Drop> Held<N> {
         Ok(debt)
     }
 
+    // Holds the cell as the newest and spends its token.
+    fn hold(&mut self, debt: Unlinked, note: N)
+        requires below { debt.cell < self.old.sizes.cells }
+        requires apart { stands_for cell_in self.old.list.items debt.cell ≡ false }
+        ensures after { self.new.list.items ≡ self.old.list.items ++ record { cell = debt.cell; note = note } ∷ [] }
+        ensures same { self.new.sizes ≡ self.old.sizes }
+    {
+        let cell = debt.paid();
+        self.flags[cell as usize] = true;
+        self.list.push_reserved(HeldCell { cell, note });
+    }
+
     // Holds the cell as the newest and spends its token, or hands the token back.
     pub(crate) fn retire(&mut self, debt: Unlinked, note: N) -> Result<(), Unpaid>
         ensures answer { result ≡ check_retire tt debt self.old.sizes.cells (stands_for cell_in self.old.list.items debt.cell) }
@@ -92,9 +104,7 @@ impl<N: Drop> Held<N> {
         ensures same { self.new.sizes ≡ self.old.sizes }
     {
         let debt = self.check_retire(debt)?;
-        let cell = debt.paid();
-        self.flags[cell as usize] = true;
-        self.list.push_reserved(HeldCell { cell, note });
+        self.hold(debt, note);
         Ok(())
     }
 
