@@ -1,11 +1,24 @@
 -- The search of all slots for the oldest held cell that none stores.
-use Rattle.std.proofs.Common.{◌≡◌, ℕ, ◌<◌, ◌≤◌, true, false, List, map, length, get_or, Some, None, sym, ap, ◌∙◌, arith}
+use Rattle.std.proofs.Common.{◌≡◌, ℕ, ◌<◌, ◌≤◌, true, false, List, map, length, get_or, Some, None, sym, ap, ◌∙◌, ⊎_elim, arith}
 use Rattle.std.specs.List.{remove}
+use Rattle.std.proofs.lemmas.Bool.{cases_Bool, both_ways}
 use Rattle.reclaim.specs.declared.held.HeldCell.{HeldCell}
+use Rattle.reclaim.specs.declared.hazard.table.Row.{Row}
 use Rattle.reclaim.specs.Cells.{oldest, without, cell_of}
 use Rattle.reclaim.specs.Table.{cell, with_held}
-use Rattle.reclaim.specs.HazardPointers.{RowTable, guarded, rows_store}
+use Rattle.reclaim.specs.HazardPointers.{RowTable, guarded, stores, rows_store, no_row}
 use Rattle.reclaim.specs.CellLemmas.{found_at, none_at}
+use Rattle.reclaim.specs.HazardLaws.{row_stored}
+
+-- a slot that stores the cell
+stored_by : (rs : List Row) (s i c : ℕ) → stores (get_or (get_or rs s no_row).slots i None) c ≡ true → rows_store rs c ≡ true
+stored_by rs s i c h =
+    ⊎_elim (λ (e : rows_store rs c ≡ true). e) (λ (e : rows_store rs c ≡ false). absurd (both_ways (stores (get_or (get_or rs s no_row).slots i None) c) (row_stored rs s i c e) h))
+    (cases_Bool (rows_store rs c))
+
+-- a slot that stores the cell that is looked at, which is x in the list
+pub stored_at : (rs : List Row) (s i : ℕ) (x y : HeldCell (Unit {0})) → x ≡ y → true ≡ stores (get_or (get_or rs s no_row).slots i None) x.cell → rows_store rs y.cell ≡ true
+stored_at rs s i x y e h = ap (λ (z : HeldCell (Unit {0})). rows_store rs z.cell) (sym e) ∙ stored_by rs s i x.cell (sym h)
 
 module _ (t : RowTable) (d : HeldCell (Unit {0})) (i : ℕ) (before : (k : ℕ) → k < i → rows_store t.places (get_or t.held k d).cell ≡ true) where
   pub scan_stops : (r s n : ℕ) (hs : List (HeldCell (Unit {0}))) → i < length t.held → rows_store t.places (get_or t.held i d).cell ≡ false

@@ -1,9 +1,9 @@
 -- Lists of things that each stand for a cell: joined, with one thing more, with one thing less, and changed thing by thing.
-use Rattle.std.specs.Prelude.{◌≡◌, ℕ, zero, suc, ◌<◌, ◌≤◌, Bool, true, false, cond, not, ◌&&◌, ◌||◌, ltb, List, [], ◌∷◌, ◌++◌, map, length, take, drop, Some, None, ◌==◌, ◌≢◌, nat_eq, nat_lt, slice_index_or, refl}
+use Rattle.std.specs.Prelude.{◌≡◌, ℕ, zero, suc, ◌+◌, ◌<◌, ◌≤◌, Bool, true, false, cond, not, ◌&&◌, ◌||◌, ltb, List, [], ◌∷◌, ◌++◌, map, length, take, drop, Some, None, ◌==◌, ◌≢◌, nat_eq, nat_lt, slice_index_or, refl}
 use Rattle.std.proofs.Common.{sym, ap, ◌∙◌, ⊎_elim, arith, add-one}
 use Rattle.std.specs.List.{remove, list_all}
-use Rattle.std.proofs.lemmas.Bool.{cases_Bool, eq-eqb, ne_eqb, eqb-true, eqb-false, and_parts, or_parts, or_cases, ltb-true, lt-ltb}
-use Rattle.std.proofs.lemmas.List.{take-append-drop, drop_more}
+use Rattle.std.proofs.lemmas.Bool.{cases_Bool, eq-eqb, ne_eqb, eqb-true, eqb-false, and_parts, and_from, or_parts, or_cases, ltb-true, lt-ltb}
+use Rattle.std.proofs.lemmas.List.{take-append-drop, drop_more, at_drop_more, at_drop_all}
 use Rattle.std.proofs.lemmas.List.Folds.{list_all-append}
 use Rattle.reclaim.specs.Model.{tally}
 use Rattle.reclaim.specs.Cells.{has, has_with, distinct, all_below, oldest, without, cell_of, Found}
@@ -114,6 +114,15 @@ module _ {X : Type 0} (cell : X → ℕ) where
 pub pass_map : {X : Type 0} (test : X → Bool) (f : X → X) → ((x : X) → test x ≡ true → test (f x) ≡ true) → (xs : List X) → list_all test xs ≡ true → list_all test (map f xs) ≡ true
 pass_map test f k [] h = refl
 pass_map test f k (x ∷ xs) h = let p = and_parts (test x) (list_all test xs) h in let i = pass_map test f k xs p.1 in let e = k x p.0 in grind arith
+
+pub pass_at : {X : Type 0} (test : X → Bool) (xs : List X) (i : ℕ) (d : X) → i < length xs → list_all test xs ≡ true → test (slice_index_or xs i d) ≡ true
+pass_at test [] i d l h = absurd (omega arith)
+pass_at test (x ∷ xs) zero d l h = (and_parts (test x) (list_all test xs) h).0
+pass_at test (x ∷ xs) (suc i) d l h = pass_at test xs i d (omega arith) (and_parts (test x) (list_all test xs) h).1
+
+pub pass_all : {X : Type 0} (test : X → Bool) (xs : List X) (d : X) → ((i : ℕ) → i < length xs → test (slice_index_or xs i d) ≡ true) → list_all test xs ≡ true
+pass_all test [] d h = refl
+pass_all test (x ∷ xs) d h = and_from (test x) (list_all test xs) (h 0 (omega arith)) (pass_all test xs d (λ i l. h (suc i) (omega arith)))
 
 -- x stands in xs, and ys are the others
 pub record Gone {X : Type 0} (xs : List X) (x : X) (ys : List X) : Type 0 where
@@ -252,3 +261,18 @@ module _ {X : Type 0} (cell : X → ℕ) (f : X → X) (same : (x : X) → cell 
   pub with_map : (test : X → Bool) (xs : List X) (c : ℕ) → has_with cell test (map f xs) c ≡ has_with cell (λ x. test (f x)) xs c
   with_map test [] c = refl
   with_map test (x ∷ xs) c = let i = with_map test xs c in let e = ap (λ k. nat_eq k c) (same x) in grind arith
+
+-- a search for a cell from the first on
+module _ {X : Type 0} (cell : X → ℕ) (xs : List X) (i c : ℕ) (inv : has cell (drop i xs) c ≡ has cell xs c) where
+  pub has_on : (x : X) → i < length xs → x ≡ slice_index_or xs i x → (cell x ≢ c) → has cell (drop (i + 1) xs) c ≡ has cell xs c
+  has_on x l is n = let e = at_drop_more (λ y. has cell y c) xs i x l in let q = ne_eqb (cell (slice_index_or xs i x)) c (λ p. n (ap cell is ∙ p)) in grind arith
+
+  pub has_hit : (ys : List X) (x : X) → xs ≡ ys → i < length xs → x ≡ slice_index_or xs i x → cell x ≡ c → true ≡ has cell ys c
+  has_hit ys x same l is n =
+      let e = at_drop_more (λ y. has cell y c) xs i x l in
+      let q = eq-eqb (cell (slice_index_or xs i x)) c (ap cell (sym is) ∙ n) in
+      let s = ap (λ y. has cell y c) same in
+      grind arith
+
+  pub has_end : (ys : List X) → xs ≡ ys → length xs ≤ i → false ≡ has cell ys c
+  has_end ys same l = sym (at_drop_all (λ y. has cell y c) xs i l) ∙ inv ∙ ap (λ y. has cell y c) same

@@ -20,7 +20,7 @@ youngest_low n x (y ∷ hs) a =
     let r = youngest_low x.note y hs p.1 in
     omega arith
 
-aging_push : (n : ℕ) (hs : List Aged) (h : Aged) → h.note ≤ n → h.note ≤ youngest hs → aging n hs ≡ true → aging n (hs ++ h ∷ []) ≡ true
+pub aging_push : (n : ℕ) (hs : List Aged) (h : Aged) → h.note ≤ n → h.note ≤ youngest hs → aging n hs ≡ true → aging n (hs ++ h ∷ []) ≡ true
 aging_push n [] h m y a = let z = le-leb h.note n m in grind arith
 aging_push n (x ∷ []) h m y a = let z = le-leb h.note x.note y in grind arith
 aging_push n (x ∷ (k ∷ hs)) h m y a =
@@ -42,9 +42,9 @@ pub aging_tail : (n : ℕ) (x : Aged) (hs : List Aged) → aging n (x ∷ hs) �
 aging_tail n x hs h = let p = and_parts (nat_le x.note n) (aging x.note hs) h in aging_more x.note n hs (leb-true x.note n p.0) p.1
 
 -- the list of a table with one cell more or less
-pub aging_held : (hs : List Aged) (h : Aged) → h.note ≤ youngest hs → aging 2 hs ≡ true → aging 2 (hs ++ h ∷ []) ≡ true
-aging_held [] h y a = aging_push 2 [] h y y a
-aging_held (x ∷ hs) h y a = let l = youngest_low 2 x hs a in aging_push 2 (x ∷ hs) h (omega arith) y a
+pub aging_held : (hs ks : List Aged) (h : Aged) → ks ≡ hs ++ h ∷ [] → h.note ≤ youngest hs → aging 2 hs ≡ true → aging 2 ks ≡ true
+aging_held [] ks h e y a = ap (aging 2) e ∙ aging_push 2 [] h y y a
+aging_held (x ∷ hs) ks h e y a = let l = youngest_low 2 x hs a in ap (aging 2) e ∙ aging_push 2 (x ∷ hs) h (omega arith) y a
 
 aging_without : (n : ℕ) (hs : List Aged) (i : ℕ) → aging n hs ≡ true → aging n (remove hs i) ≡ true
 aging_without n [] zero a = refl
@@ -185,6 +185,21 @@ settle_done (suc n) t l = by (ready t) refl (settle_done n (advance t))
     by : (b : Bool) → ready t ≡ b → (2 - first_age (map older t.held) ≤ n → ready (settle n (advance t)) ≡ false) → ready (cond b (settle n (advance t)) t) ≡ false
     by true e k = let y = first_young t e in let o = older_age t.held y in k (omega arith)
     by false e k = e
+
+pub settle_still : (n : ℕ) (t : LagTable) → ready t ≡ false → settle n t ≡ t
+settle_still zero t e = refl
+settle_still (suc n) t e = ap (λ b. cond b (settle n (advance t)) t) e
+
+pub settle_on : (t : LagTable) → ready t ≡ true → settled (advance t) ≡ settled t
+settle_on t r =
+    let k = first_young t r in
+    let o = older_age t.held k in
+    let m : ℕ = 2 - first_age (map older t.held) in
+    let q : 2 - first_age t.held ≡ suc m = omega arith in
+    sym (ap (λ n. settle n t) q ∙ ap (λ b. cond b (settle m (advance t)) t) r)
+
+pub ages_fall : (t : LagTable) → ready t ≡ true → 2 - first_age (map older t.held) < 2 - first_age t.held
+ages_fall t r = let k = first_young t r in let o = older_age t.held k in omega arith
 
 -- a cell of age 2 is within no lag
 ripe_gone : (o : Lag) (age : ℕ) → low o ≡ true → age ≡ 2 → (is_some o && within o age) ≡ false
