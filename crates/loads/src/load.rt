@@ -18,7 +18,7 @@ pub enum Mode {
 }
 
 impl Mode {
-    // The mode of this name, if it is one of the three.
+    // The mode of this name, if it is one of the three, for callers without the trait.
     pub fn named(name: &str) -> Option<Mode>
         ensures { MatchOption result ((m : Modes) → name.now ≢ mode_name m) (λ m. name.now ≡ mode_name m) }
     {
@@ -50,7 +50,7 @@ pub enum ItemSort {
 }
 
 impl ItemSort {
-    // The sort of this name, if it is one of the two.
+    // The sort of this name, if it is one of the two, for callers without the trait.
     pub fn named(name: &str) -> Option<ItemSort>
         ensures { MatchOption result ((s : Sorts) → name.now ≢ sort_name s) (λ s. name.now ≡ sort_name s) }
     {

@@ -16,7 +16,8 @@ pub(crate) fn ends_token(byte: u8) -> bool
     matches!(byte, b' ' | b'\t' | b'#')
 }
 
-// The place of the first byte that is no blank, or the line's end.
+// The place of the first byte that is no blank, or the line's end. By bytes, since cutting blanks off as characters takes
+// longer where a text is mostly blanks.
 pub(crate) fn find_start(line: &[u8]) -> usize
     ensures { Found Start line.now 0 result }
 {
