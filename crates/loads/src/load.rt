@@ -1,4 +1,7 @@
 // What a load is, by name and number.
+ghost use Rattle.std.specs.Prelude.{◌≡◌, MatchOption, ◌≢◌};
+ghost use Rattle.loads.specs.declared.load.Mode.{Mode as Modes};
+ghost use Rattle.loads.specs.declared.load.ItemSort.{ItemSort as Sorts};
 ghost use Rattle.loads.specs.Names.{mode_name, sort_name};
 
 use schedule::{Keyword, Scheme};
@@ -12,6 +15,15 @@ pub enum Mode {
     Whole,
     Mixed,
     Junk,
+}
+
+impl Mode {
+    // The mode of this name, if it is one of the three, for callers without the trait.
+    pub fn named(name: &str) -> Option<Mode>
+        ensures { MatchOption result ((m : Modes) → name.now ≢ mode_name m) (λ m. name.now ≡ mode_name m) }
+    {
+        <Mode as Keyword>::named(name)
+    }
 }
 
 impl Keyword for Mode {
@@ -35,6 +47,15 @@ impl Keyword for Mode {
 pub enum ItemSort {
     Numbers,
     Bytes,
+}
+
+impl ItemSort {
+    // The sort of this name, if it is one of the two, for callers without the trait.
+    pub fn named(name: &str) -> Option<ItemSort>
+        ensures { MatchOption result ((s : Sorts) → name.now ≢ sort_name s) (λ s. name.now ≡ sort_name s) }
+    {
+        <ItemSort as Keyword>::named(name)
+    }
 }
 
 impl Keyword for ItemSort {

@@ -1,7 +1,7 @@
 // Runs a load from its opening on, and says what it came to.
 use crate::driver::Driver;
 use crate::figures::Done;
-use crate::keys::{items, string_of};
+use crate::keys::{numbers, strings};
 use crate::load::{ItemSort, Load};
 use crate::opening::open;
 use items::ItemOrder;
@@ -48,11 +48,11 @@ fn over<T: ItemOrder>(heap: Global, load: Load, items: &[T]) -> Result<Done, Rea
 pub fn run(heap: Global, load: Load) -> Result<Result<Done, Reason>, AllocError> {
     match load.sort {
         ItemSort::Numbers => {
-            let items = items(heap, load.keys, |number| number)?;
+            let items = numbers(heap, load.keys)?;
             Ok(over(heap, load, items.as_slice()))
         }
         ItemSort::Bytes => {
-            let items = items(heap, load.keys, string_of)?;
+            let items = strings(heap, load.keys)?;
             Ok(over(heap, load, items.as_slice()))
         }
     }

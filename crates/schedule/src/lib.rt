@@ -10,6 +10,7 @@ pub mod keyword;
 pub mod lines;
 pub mod number;
 mod reader;
+mod scan;
 pub mod schedule;
 pub mod scheme;
 mod string;

@@ -1,36 +1,28 @@
 // The tokens of a line.
-ghost use Rattle.std.specs.Prelude.{◌≡◌, ℕ, ◌-◌, ◌<◌, ◌≤◌, length, drop, IfOk, OnSome};
+ghost use Rattle.std.specs.Prelude.{◌≡◌, ℕ, ◌-◌, ◌<◌, ◌≤◌, length, drop, IfOk, OnSome, MatchOption};
+ghost use Rattle.schedule.specs.Scans.{NoToken, FirstToken, TokenEnd};
 
 use crate::expected::Expected;
 use crate::number::decimal;
-
-// Whether a token ends before this byte: a blank, or the start of a comment.
-fn ends_token(byte: u8) -> bool {
-    matches!(byte, b' ' | b'\t' | b'#')
-}
+use crate::scan::{ends_token, find_gap, find_quote, find_start};
 
 // The length of the token that a line starts with.
 fn token_len(line: &[u8]) -> Result<usize, Expected>
     requires { 0 < length line.now }
-    ensures { IfOk result (λ n. (0 < n) × (n ≤ length line.now)) }
+    ensures bound { IfOk result (λ n. (0 < n) × (n ≤ length line.now)) }
+    ensures end { IfOk result (TokenEnd line.now) }
 {
-    if let [b'"', inner @ ..] = line {
-        let close = inner
-            .iter()
-            .position(|b| *b == b'"')
-            .ok_or(Expected::ClosingQuote)?;
-        return match inner.get(close + 1) {
-            Some(after) if !ends_token(*after) => Err(Expected::GapAfterQuote),
-            _ => Ok(close + 2),
-        };
+    let [b'"', inner @ ..] = line else {
+        return Ok(1 + find_gap(&line[1..]));
+    };
+    let close = find_quote(inner);
+    if close == inner.len() {
+        return Err(Expected::ClosingQuote);
     }
-    let rest = &line[1..];
-    Ok(
-        1 + rest
-            .iter()
-            .position(|b| ends_token(*b))
-            .unwrap_or(rest.len()),
-    )
+    match inner.get(close + 1) {
+        Some(after) if !ends_token(*after) => Err(Expected::GapAfterQuote),
+        _ => Ok(close + 2),
+    }
 }
 
 // What is left of a line that is being cut into tokens.
@@ -48,8 +40,10 @@ impl<'a> Tokens<'a> {
     pub(crate) fn next(&mut self) -> Result<Option<&'a str>, Expected>
         ensures same { self.new.rest.now ≡ drop (length self.old.rest.now - length self.new.rest.now) self.old.rest.now }
         ensures onward { IfOk result (λ t. OnSome t (length self.new.rest.now < length self.old.rest.now)) }
+        ensures token { IfOk result (λ t. MatchOption t (NoToken self.old.rest.now) (λ x. FirstToken self.old.rest.now x.now self.new.rest.now)) }
     {
-        let line = self.rest.trim_start_matches([' ', '\t']);
+        let start = find_start(self.rest.as_bytes());
+        let (_, line) = self.rest.split_at_checked(start).ok_or(Expected::Utf8)?;
         if line.is_empty() || line.starts_with('#') {
             return Ok(None);
         }
