@@ -5,6 +5,7 @@ pub mod asked;
 pub mod given;
 pub mod job;
 pub mod player;
+pub mod source;
 pub mod stop;
 
 pub use asked::{Answered, Asked, Who};
