@@ -31,7 +31,10 @@ fn add(words: &mut Vec<u32>, act: Act) -> Result<(), Stop> {
         Act::Word(word) => words.push(word)?,
         Act::Steps { session, count } => {
             let step = encode(WordKind::Step, session, 0);
-            words.extend((0..count).map(|_| step))?;
+            // One by one: `extend` makes room for the first line alone, which a later line has to double.
+            for _ in 0..count {
+                words.push(step)?;
+            }
         }
         Act::Finish { .. } => {}
     }
