@@ -125,12 +125,15 @@ impl<W: Write> Comparison<'_, W> {
             labels: self.labels,
         }
         .to_string(self.heap)?;
-        write!(self.out, "{number:>4}  {who}   {asked:<16}")?;
-        for answer in row.answers {
-            let column = Column(answer).to_string(self.heap)?;
-            write!(self.out, "  {column:<10}")?;
-        }
-        writeln!(self.out, "{mark}")?;
+        // All of a row before it is written, so that want of memory leaves no half of one.
+        let [hazard, epoch, quiescent] = row.answers;
+        let hazard = Column(hazard).to_string(self.heap)?;
+        let epoch = Column(epoch).to_string(self.heap)?;
+        let quiescent = Column(quiescent).to_string(self.heap)?;
+        writeln!(
+            self.out,
+            "{number:>4}  {who}   {asked:<16}  {hazard:<10}  {epoch:<10}  {quiescent:<10}{mark}"
+        )?;
         Ok(row)
     }
 
