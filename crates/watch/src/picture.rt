@@ -70,8 +70,9 @@ impl<R: Reclaimer> Picture<'_, R> {
 
     // What each session announced in its slots 0, 1 and 2.
     fn slots<W: fmt::Write>(&self, f: &mut fmt::Formatter<W>) -> fmt::Result {
-        for (session, seat) in (0..self.watch.sessions()).zip(self.watch.seats.iter()) {
+        for session in 0..self.watch.sessions() {
             let who = letter(session);
+            let seat = self.watch.seat(session);
             if seat.op.is_none() {
                 write!(f, " {who}-")?;
             } else {

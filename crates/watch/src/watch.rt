@@ -22,7 +22,7 @@ pub struct Seat {
 pub struct Watch {
     sessions: u8,
     items: u16,
-    pub(crate) seats: [Seat; 8],
+    seats: [Seat; 8],
     pub decided: Vec<Decided>,
 }
 
