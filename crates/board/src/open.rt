@@ -38,15 +38,15 @@ impl<R: Reclaimer> Board<R> {
         if reclaimer.held_count() > 0 || some_inside(&reclaimer) {
             return Err(Unopened::new(Reason::InUse, reclaimer));
         }
-        let memory = Memory::new(heap, reclaimer).map_err(|reclaimer| Unopened::new(
-            Reason::Memory,
-            reclaimer,
-        ))?;
-        Ok(Board {
-            memory,
-            stages: [Stage::Outside; 8],
-            sessions,
-            items,
-        })
+        // A `match`: by `map_err` and `?` the memory is moved twice more, which opening shows.
+        match Memory::new(heap, reclaimer) {
+            Ok(memory) => Ok(Board {
+                memory,
+                stages: [Stage::Outside; 8],
+                sessions,
+                items,
+            }),
+            Err(reclaimer) => Err(Unopened::new(Reason::Memory, reclaimer)),
+        }
     }
 }
